@@ -4,7 +4,7 @@ ghost use Rattle.disk_model.specs.Causes.{HasCause};
 ghost use Rattle.device_model.specs.Progress as Model;
 ghost use Rattle.request_slots.specs.Flight.{FitsFlight, is_in_flight, turn_of};
 ghost use Rattle.request_slots.specs.declared.turn.Turn.TheVariants as Turns;
-ghost use Rattle.device_parts.specs.Answers.{ServesNext};
+ghost use Rattle.device_parts.specs.Answers.{ServesNext, IsOfNoBlock};
 ghost use Rattle.bitmap_device.specs.Answers.{WritesFor};
 ghost use Rattle.bitmap_device.specs.Device.{IsReady, KeepsTagsBy, in_bitmap, kept};
 
@@ -38,6 +38,7 @@ pub fn serve<D: Disk>(
 
     ensures ready { IsReady parts.new regions.new (D.identity disk.new) (D.moments disk.new) }
     ensures identity { D.identity disk.new ≡ D.identity disk.old }
+    ensures unread { IsOfNoBlock (turn_of parts.old.slots ticket.now) → D.reads disk.new ≡ D.reads disk.old }
     ensures writes { WritesFor (turn_of parts.old.slots ticket.now) ticket.now parts.old regions.old
         (D.moments disk.old) (D.moments disk.new) }
 {
@@ -142,6 +143,7 @@ fn serve_flush<D: Disk>(
 
     ensures ready { IsReady parts.new regions.new (D.identity disk.new) (D.moments disk.new) }
     ensures identity { D.identity disk.new ≡ D.identity disk.old }
+    ensures unread { D.reads disk.new ≡ D.reads disk.old }
     ensures writes { WritesFor Turns.Flush ticket.now parts.old regions.old
         (D.moments disk.old) (D.moments disk.new) }
 {

@@ -3,7 +3,7 @@ ghost use Rattle.std.specs.Prelude.{◌≡◌, ◌<◌, IfOk};
 ghost use Rattle.disk_model.specs.Causes.{HasCause};
 ghost use Rattle.device_model.specs.Actors.{actor_of};
 ghost use Rattle.device_model.specs.Progress as Model;
-ghost use Rattle.device_parts.specs.Answers.{StepsNext};
+ghost use Rattle.device_parts.specs.Answers.{StepsNext, IsUnreadStep};
 ghost use Rattle.device_model.specs.declared.actor.Actor.TheVariants.{Clean, Recalc};
 ghost use Rattle.bitmap_mode.specs.States.{least_awaiting};
 ghost use Rattle.bitmap_device.specs.Answers.{HasNoWork, WritesAs, WritesClean, WritesRecalc};
@@ -44,6 +44,7 @@ pub fn step<D: Disk>(
     ensures ready { IsReady parts.new regions.new (D.identity disk.new) (D.moments disk.new) }
     ensures slots { parts.new.slots ≡ parts.old.slots }
     ensures identity { D.identity disk.new ≡ D.identity disk.old }
+    ensures unread { IsUnreadStep actor → D.reads disk.new ≡ D.reads disk.old }
     ensures writes { WritesAs actor parts.old regions.old (D.moments disk.old) (D.moments disk.new) }
     ensures quiet { HasNoWork (actor_of actor) → disk.new ≡ disk.old }
 {

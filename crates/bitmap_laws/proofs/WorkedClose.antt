@@ -141,8 +141,8 @@ ReadsTags-dirty =
     let geometry = (opens_tells bitmap_format fresh_bitmap OpensAs-bitmap).is_geometry in
     record {
       each = λ b i low i_low.
-          ap (λ (x : List ℕ). slice_index x (tag_byte_at bitmap_format.geometry b i).1)
-          (last_image-with_other (bit_sector 0) dirty_sector content (tag_byte_at bitmap_format.geometry b i).0 refl
+          ap (λ (x : List ℕ). slice_index x (tag_byte_at bitmap_format.geometry b i).byte)
+          (last_image-with_other (bit_sector 0) dirty_sector content (tag_byte_at bitmap_format.geometry b i).sector refl
           (tag_byte-no_bits fresh 0 b i (KeepsNow-before content refl).cells.stands.formed (omega (arith, regions-one)) low))
           ∙ sym (placed_tag-byte bitmap_format.geometry 112 geometry fresh_bitmap HasWholeSectors-bitmap b low (placed_cells_of bitmap_format.geometry fresh_bitmap b) i i_low);
     }

@@ -96,6 +96,7 @@ pub(crate) fn flush_cells<D: Disk>(disk: &mut D, tags: &mut Tags) -> Result<(), 
     ensures store { IsStore tags.new (D.identity disk.new) (D.moments disk.new) }
     ensures geometry { tags.new.geometry ≡ tags.old.geometry }
     ensures identity { D.identity disk.new ≡ D.identity disk.old }
+    ensures unread { D.reads disk.new ≡ D.reads disk.old }
 
     ensures through { FlushesInCells tags.old (D.moments disk.old) (D.moments disk.new) }
     ensures moments { EachSince (OnlyAdds (IsMarkedTags tags.old)) (D.moments disk.old) (D.moments disk.new) }

@@ -250,6 +250,7 @@ impl RegionStates {
 
         ensures stays { StaysOnDisk self.old self.new tags.old tags.new
             (D.identity disk.old) (D.identity disk.new) (D.moments disk.new) }
+        ensures unread { D.reads disk.new ≡ D.reads disk.old }
 
         ensures through { StandsIn (λ d. d) self.old tags.old (D.moments disk.old) (D.moments disk.new) }
         ensures moments { EachSince (OnlyAdds (IsMarkedTags tags.old)) (D.moments disk.old) (D.moments disk.new) }

@@ -4,7 +4,8 @@ ghost use Rattle.disk_model.specs.Causes.{HasCause};
 ghost use Rattle.disk_model.specs.Disk.{last_image};
 ghost use Rattle.disk_model.specs.Identity.{IsBound};
 ghost use Rattle.disk_model.specs.Moments.{HasNow};
-ghost use Rattle.bitmap_reading.specs.Bitmap.{HasBitmap, dirty_count};
+ghost use Rattle.dump_model.specs.Dump.{dirty_count};
+ghost use Rattle.bitmap_reading.specs.Bitmap.{HasBitmap};
 ghost use Rattle.sector_window.specs.Window.{HasRoom};
 
 use crate::words::{WORD_BITS, ones, read_word};

@@ -151,6 +151,7 @@ impl Cache {
             (D.moments disk.old) (D.moments disk.new) }
         ensures held { HoldsNoMore (sectors_of self.old) (sectors_of self.new) }
         ensures identity { D.identity disk.new ≡ D.identity disk.old }
+        ensures unread { D.reads disk.new ≡ D.reads disk.old }
 
         ensures moments { EachSince (IsAmidWriteBack (sectors_of self.old))
             (D.moments disk.old) (D.moments disk.new) }

@@ -32,6 +32,7 @@ pub(crate) fn write_held<D: Disk>(
     ensures same { GivesSame held.old held.new (D.identity disk.old) (D.identity disk.new)
         (D.moments disk.old) (D.moments disk.new) }
     ensures held { HoldsNoMore held.old held.new }
+    ensures unread { D.reads disk.new ≡ D.reads disk.old }
 
     ensures moments { EachSince (IsAmidMarked at (held_in held.old at))
         (D.moments disk.old) (D.moments disk.new) }
@@ -53,6 +54,7 @@ fn write_marked<D: Disk>(disk: &mut D, held: &HeldSectors, at: u64) -> Result<()
     ensures cause { HasCause (D.faults disk.old) (D.faults disk.new) result }
 
     ensures identity { D.identity disk.new ≡ D.identity disk.old }
+    ensures unread { D.reads disk.new ≡ D.reads disk.old }
 
     ensures moments { EachSince (IsAmidMarked at (held_in held.now at))
         (D.moments disk.old) (D.moments disk.new) }
@@ -76,6 +78,7 @@ pub(crate) fn make_room<D: Disk>(disk: &mut D, held: &mut HeldSectors) -> Result
     ensures same { GivesSame held.old held.new (D.identity disk.old) (D.identity disk.new)
         (D.moments disk.old) (D.moments disk.new) }
     ensures held { HoldsNoMore held.old held.new }
+    ensures unread { D.reads disk.new ≡ D.reads disk.old }
 
     ensures moments { EachSince (OnlyAdds (IsLeastRecent held.old))
         (D.moments disk.old) (D.moments disk.new) }

@@ -81,6 +81,7 @@ pub(crate) fn write_each<D: Disk>(
     ensures same { GivesSame held.old held.new (D.identity disk.old) (D.identity disk.new)
         (D.moments disk.old) (D.moments disk.new) }
     ensures held { HoldsNoMore held.old held.new }
+    ensures unread { D.reads disk.new ≡ D.reads disk.old }
 
     ensures moments { EachSince (IsAmidWriteBack held.old) (D.moments disk.old) (D.moments disk.new) }
     ensures unwritten { HasNoMark held.old → D.moments disk.new ≡ D.moments disk.old }

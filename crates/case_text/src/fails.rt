@@ -12,6 +12,8 @@ pub struct Fails {
     pub key: Option<u64>,
     /// After how many sector writes the disk stops.
     pub stop: Option<u64>,
+    /// The sector whose reads all fail.
+    pub unreadable: Option<u64>,
     /// How many bytes of text the sink takes.
     pub room: u64,
 }
@@ -24,6 +26,7 @@ impl Fails {
         sink: None,
         key: None,
         stop: None,
+        unreadable: None,
         room: 65_536,
     };
 }

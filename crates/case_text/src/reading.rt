@@ -132,6 +132,7 @@ fn apply_number(case: &mut Case, words: &str, number: u64) -> Result<()> {
     match words {
         "disk small" => case.start = Start::Small { sectors: number },
         "disk zeros" => case.start = Start::Zeros { sectors: number },
+        "unreadable" => case.fails.unreadable = Some(number),
         _ => {
             let name = match words.strip_prefix("fail ") {
                 Some(name) => name,

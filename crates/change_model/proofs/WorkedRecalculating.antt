@@ -78,7 +78,7 @@ zeros size k = elim (cases_lt k size) [
   | inr past ↦ let e : length {A = ℕ} (replicate size 0) ≡ size = length-replicate size 0 in get_or_past (replicate size 0) k 0 (omega (arith, e, past))
 ]
 
-tag_sector : (tag_byte_at bitmap_format.geometry 0 0).0 ≡ 96
+tag_sector : (tag_byte_at bitmap_format.geometry 0 0).sector ≡ 96
 unfolding tag_byte_at tag_at tag_offset sector_at section_sectors section_entries entries_per_sector entry_size tag_run_of
 tag_sector = refl
 
@@ -90,7 +90,7 @@ of_tags sector above under = record {
   block_low = omega arith;
   byte_low = omega arith;
   is = omega (arith, tag_sector);
-  each = λ b i low i_low there. inr (zeros 512 (tag_byte_at bitmap_format.geometry b i).1 ∙ sym (zeros 32 i));
+  each = λ b i low i_low there. inr (zeros 512 (tag_byte_at bitmap_format.geometry b i).byte ∙ sym (zeros 32 i));
 }
 
 pub IsRecalculating-tags : IsRecalculating waiting entry (newest_only (with_run 96 (bytes_at zero_image 96 1) start))

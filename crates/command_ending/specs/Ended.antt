@@ -10,9 +10,9 @@ use Rattle.device_model.specs.Refusals as model
 use Rattle.device_model.specs.Refusals.{image_fault_text, line_fault_text}
 use Rattle.device_model.specs.LineFault as Faults
 use Rattle.device_model.specs.LineFault.{WordsFault}
-use Rattle.script_session.specs.Meaning.{meaning_of}
+use Rattle.script_text.specs.Meaning.{meaning_of}
 use Rattle.run_model.specs.Ending as endings
-use Rattle.run_model.specs.Ending.{Ending, ByWords, ByKey, ByImage, ByLine, ByLength}
+use Rattle.run_model.specs.Ending.{Ending, ByWords, ByKey, ByImage, BySecond, ByLegs, ByLine, ByLength}
 use Rattle.command_ending.specs.declared.ended.Ended.{Ended}
 use Rattle.command_ending.specs.declared.ended.Ended.TheVariants.{Refused, Failed, Memory}
 use Rattle.command_ending.specs.declared.form_fault.FormFault.{FormFault}
@@ -23,7 +23,7 @@ use Rattle.command_ending.specs.declared.image_fault.ImageFault.TheVariants as I
 use Rattle.command_ending.specs.declared.line_refusal.LineRefusal.{LineRefusal}
 use Rattle.command_ending.specs.declared.line_refusal.LineRefusal.TheVariants.{Form, Meaning}
 use Rattle.command_ending.specs.declared.refusal.Refusal.{Refusal}
-use Rattle.command_ending.specs.declared.refusal.Refusal.TheVariants.{Words, Key, Image, Line, Length}
+use Rattle.command_ending.specs.declared.refusal.Refusal.TheVariants.{Words, Key, Image, Second, Legs, Line, Length}
 
 -- The fault of a line's words that this is.
 abbrev pub form_of : FormFault → WordsFault
@@ -51,6 +51,8 @@ abbrev pub refusal_of : Refusal → endings.Refusal
 refusal_of Words = ByWords
 refusal_of (Key refusal) = ByKey refusal
 refusal_of (Image fault) = ByImage (image_fault_of fault)
+refusal_of (Second fault) = BySecond (image_fault_of fault)
+refusal_of (Legs a_blocks a_size b_blocks b_size) = ByLegs a_blocks a_size b_blocks b_size
 refusal_of (Line number refusal) = ByLine number (line_fault_of refusal)
 refusal_of Length = ByLength
 
@@ -76,12 +78,12 @@ IsPut held faults line sink out = (held out ≡ option_map (with_bytes line) (he
 abbrev pub bytes_of : List (Bor (List ℕ)) → List ℕ
 bytes_of pieces = flat_map (λ piece. piece.now) pieces
 
--- The line of an image that is refused, with this text of its fault.
-unfoldable pub image_line : List ℕ → List ℕ
-image_line text = codes "fault image " ++ text ++ codes "\n"
+-- What stands behind the first words of the line of an image that is refused: this text of its fault, and the line's end.
+unfoldable pub rest_of_line : List ℕ → List ℕ
+rest_of_line text = text ++ codes "\n"
 
-abbrev pub image_line_of : model.ImageFault → List ℕ
-image_line_of fault = image_line (image_fault_text fault)
+abbrev pub rest_of_image_line : model.ImageFault → List ℕ
+rest_of_image_line fault = rest_of_line (image_fault_text fault)
 
 -- The line of a script's line that is refused, with the digits of its number and the text of its fault.
 unfoldable pub numbered_line : (number text : List ℕ) → List ℕ

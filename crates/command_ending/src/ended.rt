@@ -8,6 +8,7 @@ ghost use Rattle.command_ending.specs.Ended.{IsPut, Puts, ending_of, refusal_of}
 
 use crate::Refusal;
 use crate::image_texts::put_image_fault;
+use crate::leg_texts::put_legs;
 use crate::line_texts::put_line_fault;
 use crate::pieces::put_pieces;
 use run_model::{KeyRefusal, Outer};
@@ -31,7 +32,7 @@ impl Ended {
         ensures { result ≡ status_of (ending_of self.now) }
     {
         match self {
-            Ended::Refused(Refusal::Image(_)) => 3,
+            Ended::Refused(Refusal::Image(_) | Refusal::Second(_) | Refusal::Legs { .. }) => 3,
             Ended::Refused(
                 Refusal::Words | Refusal::Key(_) | Refusal::Line { .. } | Refusal::Length,
             ) => 2,
@@ -87,7 +88,14 @@ fn put_refusal<O: Sink>(out: &mut O, refusal: &Refusal) -> Result<(), Failed>
     match refusal {
         Refusal::Words => put_pieces(out, &[b"fault words\n"]),
         Refusal::Key(refusal) => put_pieces(out, &[key_line(*refusal)]),
-        Refusal::Image(fault) => put_image_fault(out, *fault),
+        Refusal::Image(fault) => put_image_fault(out, b"fault image ", *fault),
+        Refusal::Second(fault) => put_image_fault(out, b"fault second ", *fault),
+        Refusal::Legs {
+            a_blocks,
+            a_size,
+            b_blocks,
+            b_size,
+        } => put_legs(out, *a_blocks, *a_size, *b_blocks, *b_size),
         Refusal::Line { number, refusal } => put_line_fault(out, *number, refusal),
         Refusal::Length => put_pieces(out, &[b"fault script long\n"]),
     }

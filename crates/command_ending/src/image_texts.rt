@@ -1,11 +1,11 @@
-//! The last line of a command whose image is refused.
+//! The last line of a command whose image is refused, or the second image of its mirror.
 ghost use Rattle.std.specs.Prelude.{◌≡◌, ◌++◌, codes};
 ghost use Rattle.std.specs.Fmt.{decimal};
 ghost use Rattle.disk_model.specs.Causes.{HasCause};
 ghost use Rattle.device_model.specs.Refusals.{ByGeometry, ByJournal, BySuperblock, hexadecimal};
 ghost use Rattle.image_model.specs.Openable.{JournalBlock, JournalTag, Scan};
 ghost use Rattle.journal_reading.specs.Faults.{as_fault};
-ghost use Rattle.command_ending.specs.Ended.{Puts, image_fault_of, image_line, image_line_of};
+ghost use Rattle.command_ending.specs.Ended.{Puts, image_fault_of, rest_of_line, rest_of_image_line};
 
 use crate::ImageFault;
 use crate::hexadecimal::hexadecimal;
@@ -16,15 +16,29 @@ use image_model::{GeomFault, ScanFault, SuperFault};
 use itoa::Buffer;
 use journal_reading::JournalFault;
 use sector_disk::Failed;
-use stream_io::Sink;
+use stream_io::{Sink, put_all};
 
-/// Writes the line of an image that is refused.
+/// Writes the line of an image that is refused, which begins with these words.
 ///
 /// # Errors
 ///
 /// - `Failed`: the sink failed. It has taken some of the line from the front, or none, and not all.
-pub(crate) fn put_image_fault<O: Sink>(out: &mut O, fault: ImageFault) -> Result<(), Failed>
-    ensures line { Puts (image_line_of (image_fault_of fault)) (O.held out.old) (O.held out.new) result }
+pub(crate) fn put_image_fault<O: Sink>(
+    out: &mut O,
+    words: &[u8],
+    fault: ImageFault,
+) -> Result<(), Failed>
+    ensures line { Puts (words.now ++ rest_of_image_line (image_fault_of fault))
+        (O.held out.old) (O.held out.new) result }
+    ensures cause { HasCause (O.faults out.old) (O.faults out.new) result }
+{
+    put_all(out, words)?;
+    put_fault(out, fault)
+}
+
+/// Writes the rest of the line of an image that is refused, behind its first words.
+fn put_fault<O: Sink>(out: &mut O, fault: ImageFault) -> Result<(), Failed>
+    ensures line { Puts (rest_of_image_line (image_fault_of fault)) (O.held out.old) (O.held out.new) result }
     ensures cause { HasCause (O.faults out.old) (O.faults out.new) result }
 {
     match fault {
@@ -35,9 +49,9 @@ pub(crate) fn put_image_fault<O: Sink>(out: &mut O, fault: ImageFault) -> Result
     }
 }
 
-/// Writes the line of a superblock that is not accepted.
+/// Writes the rest of the line of a superblock that is not accepted.
 fn put_super_fault<O: Sink>(out: &mut O, fault: SuperFault) -> Result<(), Failed>
-    ensures line { Puts (image_line_of (BySuperblock fault)) (O.held out.old) (O.held out.new) result }
+    ensures line { Puts (rest_of_image_line (BySuperblock fault)) (O.held out.old) (O.held out.new) result }
     ensures cause { HasCause (O.faults out.old) (O.faults out.new) result }
 {
     match fault {
@@ -54,9 +68,9 @@ fn put_super_fault<O: Sink>(out: &mut O, fault: SuperFault) -> Result<(), Failed
     }
 }
 
-/// Writes the line of a disk that has no room for what the superblock tells.
+/// Writes the rest of the line of a disk that has no room for what the superblock tells.
 fn put_geom_fault<O: Sink>(out: &mut O, fault: GeomFault) -> Result<(), Failed>
-    ensures line { Puts (image_line_of (ByGeometry fault)) (O.held out.old) (O.held out.new) result }
+    ensures line { Puts (rest_of_image_line (ByGeometry fault)) (O.held out.old) (O.held out.new) result }
     ensures cause { HasCause (O.faults out.old) (O.faults out.new) result }
 {
     match fault {
@@ -72,9 +86,9 @@ fn put_geom_fault<O: Sink>(out: &mut O, fault: GeomFault) -> Result<(), Failed>
     }
 }
 
-/// Writes the line of a journal that is refused.
+/// Writes the rest of the line of a journal that is refused.
 fn put_journal_fault<O: Sink>(out: &mut O, fault: JournalFault) -> Result<(), Failed>
-    ensures line { Puts (image_line_of (ByJournal (as_fault fault))) (O.held out.old) (O.held out.new) result }
+    ensures line { Puts (rest_of_image_line (ByJournal (as_fault fault))) (O.held out.old) (O.held out.new) result }
     ensures cause { HasCause (O.faults out.old) (O.faults out.new) result }
 {
     match fault {
@@ -93,14 +107,14 @@ fn put_journal_fault<O: Sink>(out: &mut O, fault: JournalFault) -> Result<(), Fa
     }
 }
 
-/// Writes the line of an entry that is of no block of the device.
+/// Writes the rest of the line of an entry that is of no block of the device.
 fn put_entry_block<O: Sink>(
     out: &mut O,
     section: u64,
     entry: u64,
     sector: u64,
 ) -> Result<(), Failed>
-    ensures line { Puts (image_line_of (ByJournal (JournalBlock section entry sector)))
+    ensures line { Puts (rest_of_image_line (ByJournal (JournalBlock section entry sector)))
         (O.held out.old) (O.held out.new) result }
     ensures cause { HasCause (O.faults out.old) (O.faults out.new) result }
 {
@@ -112,19 +126,11 @@ fn put_entry_block<O: Sink>(
     let sector = sectors.format(sector).as_bytes();
     put_pieces(
         out,
-        &[
-            b"fault image journal block ",
-            section,
-            b" ",
-            entry,
-            b" ",
-            sector,
-            b"\n",
-        ],
+        &[b"journal block ", section, b" ", entry, b" ", sector, b"\n"],
     )
 }
 
-/// Writes the line of an entry whose tag is not that of its block.
+/// Writes the rest of the line of an entry whose tag is not that of its block.
 fn put_entry_tag<O: Sink>(
     out: &mut O,
     section: u64,
@@ -132,7 +138,7 @@ fn put_entry_tag<O: Sink>(
     stored: &Tag,
     computed: &Tag,
 ) -> Result<(), Failed>
-    ensures line { Puts (image_line_of (ByJournal (JournalTag section entry stored.now computed.now)))
+    ensures line { Puts (rest_of_image_line (ByJournal (JournalTag section entry stored.now computed.now)))
         (O.held out.old) (O.held out.new) result }
     ensures cause { HasCause (O.faults out.old) (O.faults out.new) result }
 {
@@ -147,7 +153,7 @@ fn put_entry_tag<O: Sink>(
     put_pieces(
         out,
         &[
-            b"fault image journal tag ",
+            b"journal tag ",
             section,
             b" ",
             entry,
@@ -160,9 +166,9 @@ fn put_entry_tag<O: Sink>(
     )
 }
 
-/// Writes the line of a journal whose commit numbers make no plan. Of four numbers it tells no place.
+/// Writes the rest of the line of a journal whose commit numbers make no plan. Of four numbers it tells no place.
 fn put_scan_fault<O: Sink>(out: &mut O, fault: ScanFault) -> Result<(), Failed>
-    ensures line { Puts (image_line_of (ByJournal (Scan fault))) (O.held out.old) (O.held out.new) result }
+    ensures line { Puts (rest_of_image_line (ByJournal (Scan fault))) (O.held out.old) (O.held out.new) result }
     ensures cause { HasCause (O.faults out.old) (O.faults out.new) result }
 {
     match fault {
@@ -175,34 +181,26 @@ fn put_scan_fault<O: Sink>(out: &mut O, fault: ScanFault) -> Result<(), Failed>
     }
 }
 
-/// Writes the line of a fault without a number.
+/// Writes the rest of the line of a fault without a number.
 fn put_text<O: Sink>(out: &mut O, text: &[u8]) -> Result<(), Failed>
-    ensures line { Puts (image_line text.now) (O.held out.old) (O.held out.new) result }
+    ensures line { Puts (rest_of_line text.now) (O.held out.old) (O.held out.new) result }
     ensures cause { HasCause (O.faults out.old) (O.faults out.new) result }
 {
-    put_pieces(out, &[b"fault image ", text, b"\n"])
+    put_pieces(out, &[text, b"\n"])
 }
 
-/// Writes the line of a fault with a number.
+/// Writes the rest of the line of a fault with a number.
 fn put_number<O: Sink>(out: &mut O, name: &[u8], number: u64) -> Result<(), Failed>
-    ensures line { Puts (image_line (name.now ++ decimal number)) (O.held out.old) (O.held out.new) result }
+    ensures line { Puts (rest_of_line (name.now ++ decimal number)) (O.held out.old) (O.held out.new) result }
     ensures cause { HasCause (O.faults out.old) (O.faults out.new) result }
 {
     let mut digits = Buffer::new();
-    put_pieces(
-        out,
-        &[
-            b"fault image ",
-            name,
-            digits.format(number).as_bytes(),
-            b"\n",
-        ],
-    )
+    put_pieces(out, &[name, digits.format(number).as_bytes(), b"\n"])
 }
 
-/// Writes the line of a fault with two numbers.
+/// Writes the rest of the line of a fault with two numbers.
 fn put_numbers<O: Sink>(out: &mut O, name: &[u8], one: u64, other: u64) -> Result<(), Failed>
-    ensures line { Puts (image_line (name.now ++ decimal one ++ codes " " ++ decimal other))
+    ensures line { Puts (rest_of_line (name.now ++ decimal one ++ codes " " ++ decimal other))
         (O.held out.old) (O.held out.new) result }
     ensures cause { HasCause (O.faults out.old) (O.faults out.new) result }
 {
@@ -210,24 +208,15 @@ fn put_numbers<O: Sink>(out: &mut O, name: &[u8], one: u64, other: u64) -> Resul
     let mut others = Buffer::new();
     let one = digits.format(one).as_bytes();
     let other = others.format(other).as_bytes();
-    put_pieces(out, &[b"fault image ", name, one, b" ", other, b"\n"])
+    put_pieces(out, &[name, one, b" ", other, b"\n"])
 }
 
-/// Writes the line of a fault with flags.
+/// Writes the rest of the line of a fault with flags.
 fn put_flags<O: Sink>(out: &mut O, name: &[u8], flags: u32) -> Result<(), Failed>
-    ensures line { Puts (image_line (name.now ++ hexadecimal flags)) (O.held out.old)
+    ensures line { Puts (rest_of_line (name.now ++ hexadecimal flags)) (O.held out.old)
         (O.held out.new) result }
     ensures cause { HasCause (O.faults out.old) (O.faults out.new) result }
 {
     let mut digits = [0; 8];
-    put_pieces(
-        out,
-        &[
-            b"fault image ",
-            name,
-            b"0x",
-            hexadecimal(flags, &mut digits),
-            b"\n",
-        ],
-    )
+    put_pieces(out, &[name, b"0x", hexadecimal(flags, &mut digits), b"\n"])
 }

@@ -8,6 +8,7 @@ mod form_fault;
 mod hexadecimal;
 mod image_fault;
 mod image_texts;
+mod leg_texts;
 mod line_refusal;
 mod line_texts;
 mod pieces;

@@ -1,7 +1,7 @@
 //! Why a line of a script is refused.
 
 use crate::FormFault;
-use script_session::MeaningFault;
+use script_text::MeaningFault;
 
 /// Why a line of a script is refused.
 #[derive(Debug, Drop)]

@@ -4,13 +4,13 @@ ghost use Rattle.std.specs.Fmt.{decimal};
 ghost use Rattle.disk_model.specs.Causes.{HasCause};
 ghost use Rattle.device_model.specs.LineFault.{words_fault_text};
 ghost use Rattle.device_model.specs.Script.{meaning_text};
-ghost use Rattle.script_session.specs.Meaning.{meaning_of};
+ghost use Rattle.script_text.specs.Meaning.{meaning_of};
 ghost use Rattle.command_ending.specs.Ended.{Puts, form_of, numbered_line, line_fault_of, script_line_of};
 
 use crate::pieces::put_pieces;
 use crate::{FormFault, LineRefusal};
 use itoa::Buffer;
-use script_session::MeaningFault;
+use script_text::MeaningFault;
 use sector_disk::Failed;
 use stream_io::Sink;
 

@@ -12,8 +12,24 @@ pub enum Refusal {
     Key(KeyRefusal),
     /// The image is refused.
     Image(ImageFault),
+    /// The second image of a mirror is refused.
+    Second(ImageFault),
+    /// The legs of a mirror differ in how many blocks they have, or in how many bytes a block has.
+    Legs {
+        /// The blocks of the first leg.
+        a_blocks: u64,
+        /// The bytes of a block of the first leg.
+        a_size: usize,
+        /// The blocks of the second leg.
+        b_blocks: u64,
+        /// The bytes of a block of the second leg.
+        b_size: usize,
+    },
     /// A line of the script is refused. Lines are numbered from 1.
-    Line { number: u64, refusal: LineRefusal },
+    Line {
+        number: u64,
+        refusal: LineRefusal,
+    },
     /// The script has more than 16777216 bytes.
     Length,
 }

@@ -52,6 +52,26 @@ fn each_ending_has_its_status_and_its_last_line(rt: HostRuntime) -> Result<(), F
             2,
             "fault key long\n",
         ),
+        (
+            Ended::Refused(Refusal::Image(ImageFault::Consent { flags: 0xa })),
+            3,
+            "fault image consent 0xa\n",
+        ),
+        (
+            Ended::Refused(Refusal::Second(ImageFault::Consent { flags: 0xa })),
+            3,
+            "fault second consent 0xa\n",
+        ),
+        (
+            Ended::Refused(Refusal::Legs {
+                a_blocks: 80,
+                a_size: 512,
+                b_blocks: 208,
+                b_size: 4096,
+            }),
+            3,
+            "fault legs 80 512 208 4096\n",
+        ),
         (Ended::Refused(Refusal::Length), 2, "fault script long\n"),
         (Ended::Failed(Outer::Disk), 4, "fault disk\n"),
         (Ended::Failed(Outer::Key), 5, "fault key\n"),

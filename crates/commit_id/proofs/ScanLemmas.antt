@@ -4,8 +4,9 @@ use Rattle.std.specs.Prelude.{slice_index, slice_index_or}
 use Rattle.std.specs.List.{position_or_len}
 use Rattle.std.proofs.lemmas.Bool.{le-ltb, ltb-true, true≢false, false_from_ne_true}
 use Rattle.std.proofs.lemmas.List.Sums.{position_or_len_is}
+use Rattle.image_model.specs.declared.sector_place.SectorPlace.{SectorPlace}
 use Rattle.image_model.specs.Below.{all_below}
-use Rattle.image_model.specs.Scan.{Grid, SectorCell, IsGrid, cell_number, numbers_of, blank_number, blank_plan, first_place, scan_fault_of, walk_of_grid}
+use Rattle.image_model.specs.Scan.{Grid, SectorCell, IsGrid, cell_number, numbers_of, blank_number, blank_plan, first_place, scan_fault_of, walk_of_grid, sector_place}
 use Rattle.image_model.specs.declared.sector_cell.Cell.TheVariants.{Zero}
 use Rattle.image_model.specs.declared.scan_fault.ScanFault.TheVariants.{FourNumbers}
 use Rattle.image_model.specs.Walk.{bears, is_numbered, occurs, later, newest, plan_at, plan_by, plan_of}
@@ -49,7 +50,7 @@ newest-same : (has other : ℕ → Bool) → ((number : ℕ) → number < 4 → 
 newest-same has other same = rw (same 0 (omega arith), same 1 (omega arith), same 2 (omega arith), same 3 (omega arith)) refl
 
 -- Four items in a row.
-four_items : (xs : List (ℕ × ℕ)) → length xs ≡ 4 → xs ≡ slice_index_or xs 0 (0, 0) ∷ slice_index_or xs 1 (0, 0) ∷ slice_index_or xs 2 (0, 0) ∷ slice_index_or xs 3 (0, 0) ∷ []
+four_items : (xs : List SectorPlace) → length xs ≡ 4 → xs ≡ slice_index_or xs 0 (sector_place 0 0) ∷ slice_index_or xs 1 (sector_place 0 0) ∷ slice_index_or xs 2 (sector_place 0 0) ∷ slice_index_or xs 3 (sector_place 0 0) ∷ []
 four_items [] size = absurd (omega arith)
 four_items (a ∷ []) size = absurd (omega arith)
 four_items (a ∷ b ∷ []) size = absurd (omega arith)
@@ -89,7 +90,7 @@ module _ (grid : Grid) (is_grid : IsGrid grid) where
       let has = occurs grid.sections grid.sectors (numbers_of grid) in
       let start = some_is (numbers_of grid 0 0) (numbered_at grid.sections grid.sectors (numbers_of grid) (all_numbered all) 0 0 is_grid.has_sections is_grid.has_sectors) in
       let each = newest_none has start.0 (is_grid.numbers (0 * grid.sectors + 0) start.0 start.1) (occurs_at grid.sections grid.sectors (numbers_of grid) start.0 0 0 is_grid.has_sections is_grid.has_sectors start.1) none in
-      let first : (number : ℕ) → number < 4 → first_place (λ cell. bears (cell_number cell) number) grid ≡ slice_index_or tally.firsts number (0, 0) =
+      let first : (number : ℕ) → number < 4 → first_place (λ cell. bears (cell_number cell) number) grid ≡ slice_index_or tally.firsts number (sector_place 0 0) =
       λ number low. sym (tallied.firsts number low (counted number (each number low))) in
       let test = λ (cell : SectorCell). is_none (cell_number cell) in
       let past : position_or_len test grid.cells ≡ length grid.cells = position_or_len_is test grid.cells (length grid.cells) Zero (omega arith)

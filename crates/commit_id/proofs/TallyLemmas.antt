@@ -7,7 +7,7 @@ use Rattle.std.proofs.lemmas.Bool.{cases_Bool, cases_eq, eq-eqb, ne_eqb, lt-ltb,
 use Rattle.std.proofs.lemmas.List.Sums.{position_or_len_is}
 use Rattle.std.proofs.lemmas.Option.{none-some}
 use Rattle.image_model.specs.Below.{all_below}
-use Rattle.image_model.specs.Scan.{Grid, SectorCell, cell_at, cell_number, found_in, first_place, is_blank_sector, is_zero, scan_fault_of}
+use Rattle.image_model.specs.Scan.{Grid, SectorCell, cell_at, cell_number, found_in, first_place, is_blank_sector, is_zero, scan_fault_of, sector_place}
 use Rattle.image_model.specs.declared.sector_cell.Cell.TheVariants.{Number, Zero, Other}
 use Rattle.image_model.specs.declared.scan_fault.ScanFault.TheVariants.{NoNumber}
 use Rattle.image_model.specs.Walk.{bears}
@@ -24,13 +24,13 @@ use mir.Val.{bool_byte}
 -- A place where a number first stands is its first place.
 first_place-is : (grid : Grid) (k section sector number : ℕ) → IsPlace grid k section sector → cell_number (cell_at grid k) ≡ Some number
     → count_below k (bears_at grid number) ≡ 0
-    → (section, sector) ≡ first_place (λ cell. bears (cell_number cell) number) grid
+    → sector_place section sector ≡ first_place (λ cell. bears (cell_number cell) number) grid
 first_place-is grid k section sector number place is none =
     let test = λ (cell : SectorCell). bears (cell_number cell) number in
     let first : position_or_len test grid.cells ≡ k = position_or_len_is test grid.cells k Zero (omega (arith, place.inside))
     (count_below-none k (bears_at grid number) none) (λ _. bears_it (cell_number (cell_at grid k)) number is) in
-    let here : (section, sector) ≡ (k / grid.sectors, k % grid.sectors) = let one = place.section_is in let other = place.sector_is in cc in
-    here ∙ ap (λ n. (n / grid.sectors, n % grid.sectors)) (sym first)
+    let here : sector_place section sector ≡ sector_place (k / grid.sectors) (k % grid.sectors) = let one = place.section_is in let other = place.sector_is in cc in
+    here ∙ ap (λ n. sector_place (n / grid.sectors) (n % grid.sectors)) (sym first)
 
 some_not_none : (borne : Option ℕ) → is_some borne ≡ true → is_none borne ≡ false
 some_not_none None e = absurd (true≢false (sym e))
@@ -75,7 +75,7 @@ unnumbered_added grid k section sector found (Some fault) place is found_is some
 -- With a number counted and its place kept where it is the first, a tally goes on.
 pub number_added : (section sector number : ℕ) (old new : Tally) → number < 4
     → new.counts ≡ slice_set old.counts number (slice_index old.counts number + 1)
-    → new.firsts ≡ (if slice_index old.counts number == 0 then slice_set old.firsts number (section, sector) else old.firsts)
+    → new.firsts ≡ (if slice_index old.counts number == 0 then slice_set old.firsts number (sector_place section sector) else old.firsts)
     → new.blanks ≡ old.blanks → new.unnumbered ≡ old.unnumbered → AddsNumber section sector number old new
 number_added section sector number old new low counts_is firsts_is blanks_is unnumbered_is grid k place is tally =
     let counted = tally.counts number low in
@@ -88,7 +88,7 @@ number_added section sector number old new low counts_is firsts_is blanks_is unn
       four = (
         rw (counts_is, length-set old.counts number (slice_index old.counts number + 1)) tally.four.0,
         elim (cases_eq (slice_index old.counts number) 0) [
-          | inl none ↦ rw (firsts_is, eq-eqb _ _ none, length-set old.firsts number (section, sector)) tally.four.1
+          | inl none ↦ rw (firsts_is, eq-eqb _ _ none, length-set old.firsts number (sector_place section sector)) tally.four.1
           | inr known ↦ rw (firsts_is, ne_eqb _ _ known) tally.four.1
         ],
       );
@@ -98,12 +98,12 @@ number_added section sector number old new low counts_is firsts_is blanks_is unn
       ];
       firsts = λ q low_q some. elim (cases_eq q number) [
         | inl is_it ↦ elim (cases_eq (slice_index old.counts number) 0) [
-          | inl none ↦ rw (firsts_is, eq-eqb _ _ none, is_it, get_or-set_same old.firsts number (section, sector) (0, 0) here_first)
+          | inl none ↦ rw (firsts_is, eq-eqb _ _ none, is_it, get_or-set_same old.firsts number (sector_place section sector) (sector_place 0 0) here_first)
               (first_place-is grid k section sector number place is (sym counted ∙ none))
           | inr known ↦ rw (firsts_is, ne_eqb _ _ known, is_it) (tally.firsts number low (omega arith))
         ]
         | inr other ↦ elim (cases_eq (slice_index old.counts number) 0) [
-          | inl none ↦ rw (firsts_is, eq-eqb _ _ none, get_or-set_other old.firsts number q (section, sector) (0, 0) other)
+          | inl none ↦ rw (firsts_is, eq-eqb _ _ none, get_or-set_other old.firsts number q (sector_place section sector) (sector_place 0 0) other)
               (tally.firsts q low_q (omega (arith, same q other, some)))
           | inr known ↦ rw (firsts_is, ne_eqb _ _ known) (tally.firsts q low_q (omega (arith, same q other, some)))
         ]

@@ -1,7 +1,7 @@
 -- What the first sectors of a journal show to the scan.
 use Rattle.std.specs.Prelude.{◌≡◌, ℕ, zero, suc, ◌+◌, ◌/◌, ◌%◌, ◌<◌, Bool, true, false, if◌then◌else◌, Option, Some, None, is_some, length, slice_index, slice_index_or}
 use Rattle.image_model.specs.Below.{all_below}
-use Rattle.image_model.specs.Scan.{Grid, cell_at, cell_number, first_place, is_blank_sector, scan_fault_of}
+use Rattle.image_model.specs.Scan.{Grid, cell_at, cell_number, first_place, is_blank_sector, scan_fault_of, sector_place}
 use Rattle.image_model.specs.Walk.{bears}
 use Rattle.image_model.specs.declared.scan_fault.ScanFault.{ScanFault}
 use Rattle.commit_id.specs.declared.tally.Tally.{Tally}
@@ -35,7 +35,7 @@ pub record IsTally (grid : Grid) (k : ℕ) (tally : Tally) : Type 0 where
   pub four : (length tally.counts ≡ 4) × (length tally.firsts ≡ 4)
   pub counts : (number : ℕ) → number < 4 → slice_index tally.counts number ≡ count_below k (bears_at grid number)
   pub firsts : (number : ℕ) → number < 4 → 0 < count_below k (bears_at grid number)
-      → slice_index_or tally.firsts number (0, 0) ≡ first_place (λ cell. bears (cell_number cell) number) grid
+      → slice_index_or tally.firsts number (sector_place 0 0) ≡ first_place (λ cell. bears (cell_number cell) number) grid
   pub blanks : tally.blanks ≡ count_below k (is_blank_sector grid)
   pub unnumbered : TellsUnnumbered grid k tally.unnumbered
 

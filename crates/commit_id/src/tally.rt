@@ -7,7 +7,7 @@ ghost use Rattle.commit_id.specs.Grid.{as_grid};
 ghost use Rattle.commit_id.specs.Tally.{AddsNumber, IsPlace, IsTally, TellsUnnumbered};
 
 use crate::grid::Grid;
-use image_model::{Cell, ScanFault};
+use image_model::{Cell, ScanFault, SectorPlace};
 
 /// What the first sectors of a journal show.
 #[derive(Drop)]
@@ -15,7 +15,7 @@ pub(crate) struct Tally {
     /// How many of them bear each number.
     pub(crate) counts: [u64; 4],
     /// The section and the sector of the first that bears each number, where one does.
-    pub(crate) firsts: [(u64, u64); 4],
+    pub(crate) firsts: [SectorPlace; 4],
     /// How many are zero ones among the bitmap's.
     pub(crate) blanks: u64,
     /// The first that bears no number.
@@ -29,7 +29,10 @@ impl Tally {
     {
         Tally {
             counts: [0; 4],
-            firsts: [(0, 0); 4],
+            firsts: [SectorPlace {
+                section: 0,
+                sector: 0,
+            }; 4],
             blanks: 0,
             unnumbered: None,
         }
@@ -86,7 +89,7 @@ impl Tally {
     {
         let count = self.counts[number as usize];
         if count == 0 {
-            self.firsts[number as usize] = (section, sector);
+            self.firsts[number as usize] = SectorPlace { section, sector };
         }
         self.counts[number as usize] = count + 1;
     }

@@ -64,8 +64,12 @@ pub struct CutDisk {
     sectors: u64,
     kept: Kept,
     plan: FaultPlan,
+    // How often it was read.
+    reads: u64,
     /// How many more sectors are written until it stops, if it is to stop.
     stop: Option<u64>,
+    /// The sector whose reads all fail, if there is one.
+    unreadable: Option<u64>,
     /// Whether a sync that would change nothing is no call that can fail. It is counted all the same.
     skips_syncs: bool,
     pub seen: Seen,
@@ -78,7 +82,9 @@ impl CutDisk {
             sectors: bytes.len() as u64 / 512,
             kept: Kept::new(alloc, bytes)?,
             plan: FaultPlan::new(),
+            reads: 0,
             stop: None,
+            unreadable: None,
             skips_syncs: false,
             seen: Seen::NOTHING,
         })
@@ -89,6 +95,7 @@ impl CutDisk {
     pub fn watch(&mut self, fails: Fails) {
         self.skips_syncs = fails.disk.is_none() && fails.stop.is_none();
         self.stop = fails.stop;
+        self.unreadable = fails.unreadable;
         if let Some(call) = fails.disk {
             self.plan.fail_at(&[call]);
         }
@@ -118,6 +125,23 @@ fn begin_call(plan: &mut FaultPlan, stop: Option<u64>) -> Result<(), Failed>
     plan.begin()?;
     match stop {
         Some(0) => Err(plan.fault()),
+        _ => Ok(()),
+    }
+}
+
+/// Counts a read of so many sectors, which fails too where one of them cannot be read.
+fn begin_read(
+    plan: &mut FaultPlan,
+    stop: Option<u64>,
+    unreadable: Option<u64>,
+    at: u64,
+    count: u64,
+) -> Result<(), Failed>
+    ensures cause { HasCause plan.old.faults plan.new.faults result }
+{
+    begin_call(plan, stop)?;
+    match unreadable {
+        Some(sector) if at <= sector && sector - at < count => Err(plan.fault()),
         _ => Ok(()),
     }
 }
@@ -164,6 +188,8 @@ impl Disk for CutDisk {
 
     ghost moments = { λ d. [] };
 
+    ghost reads = { λ d. d.reads };
+
     ghost named = { λ d name. record { sectors = d.sectors; moments = [] } };
 
     fn sectors(&self) -> u64 {
@@ -171,7 +197,9 @@ impl Disk for CutDisk {
     }
 
     fn read_run(&mut self, at: u64, buffer: &mut [u8]) -> Result<(), Failed> {
-        let answer = begin_call(&mut self.plan, self.stop);
+        self.reads = self.reads.saturating_add(1);
+        let count = buffer.len() as u64 / 512;
+        let answer = begin_read(&mut self.plan, self.stop, self.unreadable, at, count);
         self.seen.note(answer.is_ok());
         if answer.is_ok() {
             read_sectors(&self.kept.bytes, at, buffer);

@@ -18,7 +18,7 @@ use Rattle.direct_laws.specs.CallLaws.{ReadsImage}
 use Rattle.recalculate_laws.specs.Formats.{under_fields}
 use Rattle.image_refusal.specs.declared.call_fault.CallFault.{CallFault}
 use Rattle.image_refusal.specs.declared.open_fault.OpenFault.{OpenFault}
-use Rattle.image_judging.proofs.FaultsLemmas.{fault_in-err}
+use Rattle.judging_model.proofs.FaultsLemmas.{fault_in-err}
 use Rattle.device_parts.specs.declared.parts.Parts.{Parts}
 use Rattle.direct_device.specs.declared.parts.DirectParts.{DirectParts}
 use Rattle.direct_device.specs.Device.{in_direct}

@@ -6,7 +6,7 @@ use Rattle.std.proofs.Math.Seq.{take-append-add}
 use Rattle.disk_model.specs.Disk.{Content, Image, EachImage}
 use Rattle.disk_model.specs.Moments.{EachMoment}
 use Rattle.disk_model.proofs.MomentsLemmas.{EachMoment-then, EachMoment-weaker, no_moment}
-use Rattle.device_model.specs.Device.{DeviceKind}
+use Rattle.device_model.specs.Device.{DeviceKind, IsLeftWithin}
 use Rattle.device_model.specs.History.{Change, Begun, Written, Flushed, History, with_change, with_changes}
 use Rattle.device_model.specs.Mode.{DeviceFormat}
 use Rattle.device_model.specs.Progress.{DeviceState, Event, EventResult, Submit, Serve, Step, Take, Close, FailedServe, FailedStep, FailedClose, Working, after_events, changes_of, event_result, first_begun}
@@ -20,7 +20,7 @@ use Rattle.device.specs.Device.{IsDevice, any_mode, kind_of}
 use Rattle.device_parts.specs.Device.{Standing}
 use Rattle.device_opening.proofs.MomentsLemmas.{EachMoment-both}
 use Rattle.device.proofs.ModeLemmas.{left_now}
-use Rattle.device.specs.Run.{HasBegun, HasFailed, HasRun, IsCutOff, IsLeftWithin, failed_of, standing_behind}
+use Rattle.device.specs.Run.{HasBegun, HasFailed, HasRun, IsCutOff, failed_of, standing_behind}
 use Rattle.device.specs.Tags.{Leaves, LeavesIn}
 use Rattle.device.proofs.TagsLemmas.{leaves_all, leaves_left, leaves_then}
 

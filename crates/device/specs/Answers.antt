@@ -8,13 +8,14 @@ use Rattle.device_model.specs.Mode as Modes
 use Rattle.device_model.specs.Progress as Model
 use Rattle.request_slots.specs.declared.request.Request.{Request}
 use Rattle.request_slots.specs.declared.submit_fault.SubmitFault.{SubmitFault}
+use Rattle.request_slots.specs.declared.turn.Turn.{Turn}
 use Rattle.request_slots.specs.Flight.{Flight, turn_of}
 use Rattle.device_model.specs.declared.actor.Actor.{Actor}
 use Rattle.device_parts.specs.declared.answers.Moved.TheVariants.{Did}
 use Rattle.device_parts.specs.declared.condition.Condition.{Condition}
 use Rattle.device_parts.specs.declared.condition.Condition.TheVariants.{Working}
 use Rattle.device_parts.specs.declared.parts.Parts.{Parts}
-use Rattle.device_parts.specs.Answers.{submit_fault}
+use Rattle.device_parts.specs.Answers.{IsOfNoBlock, IsOfNoRead, submit_fault}
 use Rattle.device_parts.specs.Device.{Standing}
 use Rattle.recalculation.specs.Recalculation.{HasFields, fields_left}
 use Rattle.direct_device.specs.Answers as InDirect
@@ -62,6 +63,11 @@ refusal_in Modes.Recovery condition flight request = refusal_of condition flight
 refusal_in mode condition flight request = submit_fault condition flight request
 
 -- ---- a serve
+
+-- The disk is not read in such a turn: in journal mode in each but one of a read, in the others in one of no block.
+abbrev pub NeedsNoRead : Mode → Turn → Type 0
+NeedsNoRead (Journal state) turn = IsOfNoRead turn
+NeedsNoRead mode turn = IsOfNoBlock turn
 
 -- What is written in one: in direct mode sectors of tags, and the block that is written next; in journal and in bitmap
 -- mode what is done next tells it; in recovery mode nothing.

@@ -3,7 +3,7 @@ use Rattle.std.specs.Prelude.{◌≡◌, ℕ, List, [], ◌∷◌, ◌++◌, tak
 use Rattle.disk_model.specs.Disk.{Content, EachImage, Image}
 use Rattle.disk_model.specs.Moments.{EachMoment, HasNow}
 use Rattle.device_model.specs.Actors.{actor_of}
-use Rattle.device_model.specs.Device.{DeviceKind}
+use Rattle.device_model.specs.Device.{IsLeftWithin}
 use Rattle.device_model.specs.History.{Change, History, with_changes}
 use Rattle.device_model.specs.Progress.{Event, Submit, Serve, Step, Take, Close, FailedServe, FailedStep, FailedClose}
 use Rattle.device_model.specs.Progress.{after_events, changes_of}
@@ -14,13 +14,6 @@ use Rattle.device.specs.declared.mode.DeviceParts.{DeviceParts}
 use Rattle.device_parts.specs.Device.{Standing}
 use Rattle.device.specs.Device.{IsDevice, kind_of}
 use Rattle.device.specs.Tags.{LeavesIn}
-
--- Some of the first changes are made at a moment: each image can be opened, and may be left by that history.
-pub record IsLeftWithin (kind : DeviceKind) (entry : Image) (h : History) (changes : List Change) (c : Content)
-    : Type 0 where
-  pub made : ℕ
-  pub opens : EachImage kind.CanOpen c
-  pub left : EachImage (kind.MayBeLeft entry (with_changes (take made changes) h)) c
 
 -- The same device after some events.
 abbrev pub standing_behind : Standing → List Event → Standing

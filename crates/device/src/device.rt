@@ -2,14 +2,14 @@
 ghost use Rattle.std.specs.Prelude.{◌≡◌, ◌↔◌, ◌+◌, ◌<◌, ◌^◌, suc, false, Err, IfErr, IfOk, IsTrue, Ok, true};
 ghost use Rattle.disk_model.specs.Identity.{IsBound};
 ghost use Rattle.hmac_tag.specs.TagMaker.{key_of};
-ghost use Rattle.request_slots.specs.Flight.{is_in_flight, slot_of};
+ghost use Rattle.request_slots.specs.Flight.{is_in_flight, slot_of, turn_of};
 ghost use Rattle.request_slots.specs.Taking.{after_take, taken_by};
 ghost use Rattle.request_slots.specs.Submitting.{answer_by};
-ghost use Rattle.device_parts.specs.Answers.{HasStepCause, TurnsBroken};
+ghost use Rattle.device_parts.specs.Answers.{HasStepCause, TurnsBroken, IsUnreadStep};
 ghost use Rattle.device_parts.specs.declared.answers.Served.TheVariants.{Did, NoRoom};
 ghost use Rattle.device_model.specs.Actors.{actor_of};
 ghost use Rattle.device_model.specs.Progress.{Close, FailedServe, Step};
-ghost use Rattle.device.specs.Answers.{FindsNothing, GoesOn, HasNoWork, KeepsClearTags};
+ghost use Rattle.device.specs.Answers.{FindsNothing, GoesOn, HasNoWork, KeepsClearTags, NeedsNoRead};
 ghost use Rattle.device.specs.Calls.{Closes, GivesSerial, HasFewerTurns, Keeps, LeavesAtRest, Serves, StaysReady};
 ghost use Rattle.device.specs.Calls.{Steps, Submits, Takes, WritesClosing, WritesServing, WritesStepping, refusal_to};
 ghost use Rattle.device.specs.Calls.{with_submitted};
@@ -178,6 +178,8 @@ impl<'d, 'p, D: Disk> Device<'d, 'p, D> {
 
         ensures keeps { Keeps result self.old.parts self.new.parts
             (D.identity self.old.disk.now) (D.identity self.new.disk.now) (D.moments self.new.disk.now) }
+        ensures unread { NeedsNoRead self.old.parts.mode (turn_of self.old.parts.common.slots ticket.now)
+            → D.reads self.new.disk.now ≡ D.reads self.old.disk.now }
         ensures tags { KeepsClearTags self.old.parts.mode self.old.parts.common (FailedServe ticket.now)
             (D.moments self.old.disk.now) (D.moments self.new.disk.now) }
         ensures writes { WritesServing self.old.condition ticket.now self.old.parts self.new.parts
@@ -235,6 +237,7 @@ impl<'d, 'p, D: Disk> Device<'d, 'p, D> {
 
         ensures keeps { Keeps result self.old.parts self.new.parts
             (D.identity self.old.disk.now) (D.identity self.new.disk.now) (D.moments self.new.disk.now) }
+        ensures unread { IsUnreadStep actor → D.reads self.new.disk.now ≡ D.reads self.old.disk.now }
         ensures slots { self.new.parts.common.slots ≡ self.old.parts.common.slots }
         ensures idle { result ≡ Ok Moved.Idle
             → FindsNothing actor self.old.parts self.new.parts self.old.disk.now self.new.disk.now }

@@ -1,12 +1,12 @@
 //! Serving a request, in the device's mode.
 ghost use Rattle.std.specs.Prelude.{◌≡◌, Ok, false, true};
 ghost use Rattle.disk_model.specs.Causes.{HasCause};
-ghost use Rattle.request_slots.specs.Flight.{is_in_flight};
+ghost use Rattle.request_slots.specs.Flight.{is_in_flight, turn_of};
 ghost use Rattle.device_parts.specs.Answers.{HasStepCause, ServesNext, TurnsBroken};
 ghost use Rattle.device_parts.specs.declared.answers.Served.TheVariants.{Did, NoRoom};
 ghost use Rattle.device_parts.specs.declared.condition.Condition.TheVariants.{Working};
 ghost use Rattle.device_model.specs.Progress.{FailedServe};
-ghost use Rattle.device.specs.Answers.{KeepsClearTags, WritesInServe};
+ghost use Rattle.device.specs.Answers.{KeepsClearTags, WritesInServe, NeedsNoRead};
 ghost use Rattle.device.specs.Calls.{HasFewerTurns, Keeps, Serves, WritesServing};
 ghost use Rattle.device.specs.Device.{IsReady, any_mode};
 ghost use Rattle.device.specs.Telling.{Tells, has_room_in};
@@ -43,6 +43,8 @@ pub(crate) fn serve<D: Disk>(
 
     ensures keeps { Keeps result parts.old parts.new
         (D.identity disk.old) (D.identity disk.new) (D.moments disk.new) }
+    ensures unread { NeedsNoRead parts.old.mode (turn_of parts.old.common.slots ticket.now)
+        → D.reads disk.new ≡ D.reads disk.old }
     ensures tags { KeepsClearTags parts.old.mode parts.old.common (FailedServe ticket.now)
         (D.moments disk.old) (D.moments disk.new) }
     ensures writes { WritesServing condition.old ticket.now parts.old parts.new
@@ -81,6 +83,8 @@ fn serve_next<D: Disk>(
 
     ensures keeps { Keeps result parts.old parts.new
         (D.identity disk.old) (D.identity disk.new) (D.moments disk.new) }
+    ensures unread { NeedsNoRead parts.old.mode (turn_of parts.old.common.slots ticket.now)
+        → D.reads disk.new ≡ D.reads disk.old }
     ensures tags { KeepsClearTags parts.old.mode parts.old.common (FailedServe ticket.now)
         (D.moments disk.old) (D.moments disk.new) }
     ensures writes { WritesInServe parts.old.mode ticket.now parts.old.common parts.new.common

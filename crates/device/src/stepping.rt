@@ -1,7 +1,7 @@
 //! What is done in the background, in the device's mode.
 ghost use Rattle.std.specs.Prelude.{◌≡◌, IfOk, Ok};
 ghost use Rattle.disk_model.specs.Causes.{HasCause};
-ghost use Rattle.device_parts.specs.Answers.{HasStepCause, StepsNext, TurnsBroken};
+ghost use Rattle.device_parts.specs.Answers.{HasStepCause, StepsNext, TurnsBroken, IsUnreadStep};
 ghost use Rattle.device_parts.specs.declared.condition.Condition.TheVariants.{Working};
 ghost use Rattle.device_model.specs.Actors.{actor_of};
 ghost use Rattle.device_model.specs.Progress.{Step};
@@ -35,6 +35,7 @@ pub(crate) fn step<D: Disk>(
 
     ensures keeps { Keeps result parts.old parts.new
         (D.identity disk.old) (D.identity disk.new) (D.moments disk.new) }
+    ensures unread { IsUnreadStep actor → D.reads disk.new ≡ D.reads disk.old }
     ensures slots { parts.new.common.slots ≡ parts.old.common.slots }
     ensures idle { result ≡ Ok Moved.Idle → FindsNothing actor parts.old parts.new disk.old disk.new }
     ensures tags { KeepsClearTags parts.old.mode parts.old.common (Step (actor_of actor))
@@ -75,6 +76,7 @@ fn step_next<D: Disk>(
 
     ensures keeps { Keeps result parts.old parts.new
         (D.identity disk.old) (D.identity disk.new) (D.moments disk.new) }
+    ensures unread { IsUnreadStep actor → D.reads disk.new ≡ D.reads disk.old }
     ensures slots { parts.new.common.slots ≡ parts.old.common.slots }
     ensures tags { KeepsClearTags parts.old.mode parts.old.common (Step (actor_of actor))
         (D.moments disk.old) (D.moments disk.new) }

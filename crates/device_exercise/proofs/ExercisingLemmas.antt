@@ -35,7 +35,8 @@ use Rattle.script_session.specs.Tickets.{AreInFlight, Stays}
 use Rattle.device_exercise.specs.Exercising.{AreAsksCut, Counts, HasExercised, HasRunAsks, IsExerciseCut}
 use Rattle.device_exercise.specs.Exercising.{StaysWithin, answers_of}
 use Rattle.device_exercise.specs.Exercising.{events_of_asks, exercise_events, with_reply_of}
-use Rattle.device_exercise.specs.InOrder.{AreLinesBegun, AreLinesMade, changes_by_ask, changes_by_exercise}
+use Rattle.device_exercise.specs.InOrder.{changes_by_ask, changes_by_exercise}
+use Rattle.workload_model.specs.InOrder.{AreLinesBegun, AreLinesMade}
 use Rattle.device_exercise.proofs.InOrderLemmas.{ask_begun, ask_made, asks_begun_then, asks_begun_wider, asks_made_then}
 use Rattle.device_exercise.proofs.CountLemmas.{counts_answer, counts_ask, counts_none, counts_then}
 

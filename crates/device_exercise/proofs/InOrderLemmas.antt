@@ -4,7 +4,7 @@ use Rattle.std.proofs.lemmas.List.{map-append}
 use Rattle.disk_model.specs.Disk.{Content, EachImage, Image}
 use Rattle.disk_model.specs.Moments.{EachMoment, HasNow}
 use Rattle.disk_model.proofs.MomentsLemmas.{EachMoment-weaker, no_moment}
-use Rattle.device_model.specs.Device.{DeviceKind}
+use Rattle.device_model.specs.Device.{DeviceKind, IsLeftWithin}
 use Rattle.device_model.specs.History.{Change, History, with_changes}
 use Rattle.device_model.specs.Mode.{DeviceFormat}
 use Rattle.device_model.specs.Progress.{DeviceState, changes_of}
@@ -13,7 +13,7 @@ use Rattle.device_model.proofs.ScriptLemmas.{history-after}
 use Rattle.workload_model.specs.Exercise.{asking_line}
 use Rattle.workload_model.proofs.ExerciseLemmas.{after_events-script}
 use Rattle.device.specs.Device.{kind_of}
-use Rattle.device.specs.Run.{HasRun, IsCutOff, IsLeftWithin, standing_behind}
+use Rattle.device.specs.Run.{HasRun, IsCutOff, standing_behind}
 use Rattle.device.specs.declared.mode.DeviceParts.{DeviceParts}
 use Rattle.device.proofs.ModeLemmas.{left_now}
 use Rattle.device.proofs.RunLemmas.{left-wider}
@@ -21,8 +21,8 @@ use Rattle.device_parts.specs.Device.{Standing}
 use Rattle.device_parts.specs.declared.condition.Condition.TheVariants as Conditions
 use Rattle.script_session.specs.LineRun.{events_of}
 use Rattle.device_exercise.specs.Exercising.{events_of_asks}
-use Rattle.device_exercise.specs.InOrder.{AreAsksBegun, AreAsksMade, AreLinesBegun, AreLinesMade, changes_by_ask}
-use Rattle.device_exercise.specs.InOrder.{changes_by_line, first_changes, history_behind}
+use Rattle.device_exercise.specs.InOrder.{AreAsksBegun, AreAsksMade, changes_by_ask}
+use Rattle.workload_model.specs.InOrder.{AreLinesBegun, AreLinesMade, changes_by_line, first_changes, history_behind}
 
 -- ---- changes
 

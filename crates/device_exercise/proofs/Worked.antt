@@ -4,7 +4,7 @@ use Rattle.device_model.specs.History.{Begun, BlockWrite, Change, Flushed, Writt
 use Rattle.device_model.specs.Mode.{DeviceFormat, Direct}
 use Rattle.device_model.specs.Progress.{DeviceState, opened_device}
 use Rattle.device_model.specs.Script.{AskLine, Fill, Flush, Read, ScriptLine}
-use Rattle.device_exercise.specs.InOrder.{changes_by_line, first_changes, history_behind}
+use Rattle.workload_model.specs.InOrder.{changes_by_line, first_changes, history_behind}
 
 -- Tags that are easy to compute: that of a block is its number and its first byte.
 abbrev easy_tag : ℕ → List ℕ → List ℕ

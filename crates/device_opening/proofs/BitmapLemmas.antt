@@ -28,8 +28,8 @@ use Rattle.buffer_cache.proofs.CachedLemmas.{changed_now}
 use Rattle.hmac_tag.specs.TagMaker.{TagRule}
 use Rattle.image_format.specs.declared.reading.ImageFormat.{ImageFormat}
 use Rattle.image_format.specs.Format.{IsBitmapFormat, disk_format, format_of}
-use Rattle.image_judging.specs.declared.consent.Consent.{Consent}
-use Rattle.image_judging.specs.Faults.{ByConsent, dirty_fault, fault_by_format, fault_of, has_dirty_region, lacks_consent}
+use Rattle.judging_model.specs.declared.consent.Consent.{Consent}
+use Rattle.judging_model.specs.Faults.{ByConsent, dirty_fault, fault_by_format, fault_of, has_dirty_region, lacks_consent}
 use Rattle.recalculation.specs.Awaiting.{awaiting_of}
 use Rattle.tag_store.specs.Store.{IsStore, Store, given_tags}
 use Rattle.request_slots.specs.Flight.{Flight, no_requests}

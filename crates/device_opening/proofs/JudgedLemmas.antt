@@ -24,12 +24,12 @@ use Rattle.place_model.specs.Kind.{kind_in}
 use Rattle.place_model.proofs.FormatLemmas.{opens_from, reads_tells}
 use Rattle.image_format.specs.declared.reading.ImageFormat.{ImageFormat}
 use Rattle.image_format.specs.Format.{IsFormat, IsReadNow, disk_format, format_of}
-use Rattle.image_judging.specs.declared.consent.Consent.{Consent}
+use Rattle.judging_model.specs.declared.consent.Consent.{Consent}
 use Rattle.image_refusal.specs.declared.call_fault.CallFault.{CallFault}
 use Rattle.image_refusal.specs.declared.open_fault.OpenFault.{OpenFault}
 use Rattle.image_refusal.specs.Calls.{HasCallCause}
-use Rattle.image_judging.specs.Faults.{ByConsent, ByJournal, fault_of, lacks_consent}
-use Rattle.image_judging.proofs.FaultsLemmas.{fault_of-format, fault_of-lacking}
+use Rattle.judging_model.specs.Faults.{ByConsent, ByJournal, fault_of, lacks_consent}
+use Rattle.judging_model.proofs.FaultsLemmas.{fault_of-format, fault_of-lacking}
 use Rattle.recalculation.specs.declared.recalculating.Recalculation.{Recalculation}
 use Rattle.request_slots.specs.Flight.{Flight, no_requests}
 use Rattle.device_parts.specs.declared.parts.Parts.{Parts}

@@ -11,8 +11,8 @@ use Rattle.image_refusal.specs.declared.open_fault.OpenFault.{OpenFault}
 use Rattle.image_refusal.specs.declared.open_fault.OpenFault.TheVariants.{Head}
 use Rattle.image_refusal.specs.Calls.{TellsCause, with_cause}
 use Rattle.image_format.specs.Format.{format_of}
-use Rattle.image_judging.specs.Faults.{ByHead, ImageFault, fault_in}
-use Rattle.image_judging.proofs.FaultsLemmas.{fault_in-err}
+use Rattle.judging_model.specs.Faults.{ByHead, ImageFault, fault_in}
+use Rattle.judging_model.proofs.FaultsLemmas.{fault_in-err}
 use Rattle.device_opening.specs.Opening.{KeepsRefused, Refuses}
 
 -- The fault of an answer, and this one where it tells none.

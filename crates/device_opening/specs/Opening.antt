@@ -14,7 +14,7 @@ use Rattle.image_format.specs.declared.reading.ImageFormat.{ImageFormat}
 use Rattle.image_refusal.specs.declared.call_fault.CallFault.{CallFault}
 use Rattle.image_refusal.specs.declared.call_fault.CallFault.TheVariants as Faults
 use Rattle.image_refusal.specs.declared.open_fault.OpenFault.{OpenFault}
-use Rattle.image_judging.specs.Faults.{ImageFault, fault_in}
+use Rattle.judging_model.specs.Faults.{ImageFault, fault_in}
 use Rattle.journal_model.specs.Opening.{opened_disk}
 use Rattle.buffer_cache.specs.Cache.{sectors_of}
 use Rattle.buffer_cache.specs.HeldSectors.{no_sectors}

@@ -3,7 +3,7 @@
 use Rattle.std.specs.Prelude.{ℕ, Option, None}
 use Rattle.disk_model.specs.Disk.{Image}
 use Rattle.image_format.specs.Format.{format_of}
-use Rattle.image_judging.specs.Faults.{ImageFault, fault_by}
+use Rattle.judging_model.specs.Faults.{ImageFault, fault_by}
 
 -- The fault of an image on a disk of so many sectors, if it has one.
 abbrev pub format_fault_of : (sectors : ℕ) → Image → Option ImageFault

@@ -6,7 +6,7 @@ ghost use Rattle.disk_model.specs.Identity.{IsBound};
 ghost use Rattle.device_model.specs.Mode as Model;
 ghost use Rattle.hmac_tag.specs.TagMaker.{key_of};
 ghost use Rattle.image_refusal.specs.Calls.{HasCallCause};
-ghost use Rattle.image_judging.specs.Faults.{fault_of};
+ghost use Rattle.judging_model.specs.Faults.{fault_of};
 ghost use Rattle.device_parts.specs.Device.{HasOpened};
 ghost use Rattle.bitmap_device.specs.Device.{in_bitmap};
 ghost use Rattle.device_opening.specs.BitmapOpening.{HasJudgedBitmap};

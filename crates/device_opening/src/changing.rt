@@ -10,7 +10,7 @@ ghost use Rattle.device_model.specs.Mode as Model;
 ghost use Rattle.hmac_tag.specs.TagMaker.{key_of};
 ghost use Rattle.image_format.specs.Format.{IsDirectFormat};
 ghost use Rattle.image_refusal.specs.Calls.{HasCallCause};
-ghost use Rattle.image_judging.specs.Faults.{fault_of};
+ghost use Rattle.judging_model.specs.Faults.{fault_of};
 ghost use Rattle.bitmap_device.specs.Device.{IsReady, in_bitmap};
 ghost use Rattle.device_parts.specs.Device.{HasOpened};
 ghost use Rattle.mode_change.specs.ToBitmap.{bitmap_format};

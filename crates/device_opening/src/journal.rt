@@ -8,7 +8,7 @@ ghost use Rattle.image_model.specs.SuperblockLaws.{FitsBytes};
 ghost use Rattle.device_model.specs.Mode as Model;
 ghost use Rattle.hmac_tag.specs.TagMaker.{key_of};
 ghost use Rattle.image_refusal.specs.Calls.{HasCallCause};
-ghost use Rattle.image_judging.specs.Faults.{fault_of};
+ghost use Rattle.judging_model.specs.Faults.{fault_of};
 ghost use Rattle.mode_change.specs.ToJournal.{journal_format};
 ghost use Rattle.device_parts.specs.Device.{HasOpened};
 ghost use Rattle.journal_device.specs.Device.{in_journal};

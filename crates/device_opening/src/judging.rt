@@ -4,7 +4,7 @@ ghost use Rattle.disk_model.specs.Identity.{IsBound};
 ghost use Rattle.image_model.specs.Cells.{salt_of};
 ghost use Rattle.hmac_tag.specs.TagMaker.{key_of};
 ghost use Rattle.image_refusal.specs.Calls.{HasCallCause};
-ghost use Rattle.image_judging.specs.Faults.{fault_of};
+ghost use Rattle.judging_model.specs.Faults.{fault_of};
 ghost use Rattle.device_opening.specs.Judged.{HasJournalFormat, HasJudged, rule_of};
 ghost use Rattle.device_opening.specs.Opening.{TellsFault};
 

@@ -22,6 +22,7 @@ use Rattle.request_slots.specs.Submitting as Submitting
 use Rattle.request_slots.specs.Submitting.{after_submit, fault_of}
 use Rattle.request_slots.specs.Serving.{with_block_read, with_change, with_fault}
 use Rattle.device_model.specs.declared.actor.Actor.{Actor}
+use Rattle.device_model.specs.declared.actor.Actor.TheVariants as Actors
 use Rattle.device_parts.specs.declared.answers.Moved.{Moved}
 use Rattle.device_parts.specs.declared.answers.Moved.TheVariants as Moves
 use Rattle.device_parts.specs.declared.answers.Served.{Served}
@@ -32,6 +33,25 @@ use Rattle.device_parts.specs.declared.condition.Condition.{Condition}
 use Rattle.device_parts.specs.declared.condition.Condition.TheVariants as Conditions
 use Rattle.device_parts.specs.declared.parts.Parts.{Parts}
 use Rattle.device_parts.specs.Device.{DeviceMode, Does, HasDone, IsDone, KeepsFlight, Standing}
+
+-- ---- what needs no read of the disk
+
+-- Nothing is done in this turn, or all is flushed: no block is read or written.
+abbrev pub IsOfNoBlock : Turn → Type 0
+IsOfNoBlock (Turns.Read block) = ⊥
+IsOfNoBlock (Turns.Write block is_flushed) = ⊥
+IsOfNoBlock turn = Unit {0}
+
+-- No block is read in this turn.
+abbrev pub IsOfNoRead : Turn → Type 0
+IsOfNoRead (Turns.Read block) = ⊥
+IsOfNoRead turn = Unit {0}
+
+-- The step of an actor that writes what is in memory, and syncs.
+abbrev pub IsUnreadStep : Actor → Type 0
+IsUnreadStep Actors.Commit = Unit {0}
+IsUnreadStep Actors.Settle = Unit {0}
+IsUnreadStep actor = ⊥
 
 -- ---- a serve
 

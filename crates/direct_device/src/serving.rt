@@ -3,6 +3,7 @@ ghost use Rattle.std.specs.Prelude.{◌≡◌, ◌<◌, true, OnOk};
 ghost use Rattle.disk_model.specs.Causes.{HasCause};
 ghost use Rattle.request_slots.specs.Flight.{FitsFlight, is_in_flight, turn_of};
 ghost use Rattle.request_slots.specs.declared.turn.Turn.TheVariants as Turns;
+ghost use Rattle.device_parts.specs.Answers.{IsOfNoBlock};
 ghost use Rattle.direct_device.specs.Answers.{Serves, WritesServed};
 ghost use Rattle.direct_device.specs.Device.{IsReady, kept};
 
@@ -35,6 +36,7 @@ pub fn serve<D: Disk>(
 
     ensures ready { IsReady parts.new recalculation.new (D.identity disk.new) (D.moments disk.new) }
     ensures identity { D.identity disk.new ≡ D.identity disk.old }
+    ensures unread { IsOfNoBlock (turn_of parts.old.slots ticket.now) → D.reads disk.new ≡ D.reads disk.old }
     ensures writes { WritesServed ticket.now parts.old parts.new (D.moments disk.old) (D.moments disk.new) }
 {
     match parts.slots.turn(ticket) {
@@ -132,6 +134,7 @@ fn serve_flush<D: Disk>(
 
     ensures ready { IsReady parts.new recalculation.now (D.identity disk.new) (D.moments disk.new) }
     ensures identity { D.identity disk.new ≡ D.identity disk.old }
+    ensures unread { D.reads disk.new ≡ D.reads disk.old }
     ensures writes { WritesServed ticket.now parts.old parts.new (D.moments disk.old) (D.moments disk.new) }
 {
     // The regions are named in the contract alone: a flush takes none.

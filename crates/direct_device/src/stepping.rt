@@ -3,6 +3,7 @@ ghost use Rattle.std.specs.Prelude.{◌≡◌, ◌<◌, IfOk};
 ghost use Rattle.disk_model.specs.Causes.{HasCause};
 ghost use Rattle.device_model.specs.Actors.{actor_of};
 ghost use Rattle.device_model.specs.declared.actor.Actor.TheVariants.{Recalc};
+ghost use Rattle.device_parts.specs.Answers.{IsUnreadStep};
 ghost use Rattle.recalculation.specs.Recalculation.{fields_next, fields_then};
 ghost use Rattle.direct_device.specs.Answers.{HasNoWork, MovesFieldsTo, Steps, WritesAs, steps_left};
 ghost use Rattle.direct_device.specs.Device.{IsReady, kept};
@@ -39,6 +40,7 @@ pub fn step<D: Disk>(
     ensures ready { IsReady parts.new recalculation.new (D.identity disk.new) (D.moments disk.new) }
     ensures slots { parts.new.slots ≡ parts.old.slots }
     ensures identity { D.identity disk.new ≡ D.identity disk.old }
+    ensures unread { IsUnreadStep actor → D.reads disk.new ≡ D.reads disk.old }
     ensures heads { MovesFieldsTo (fields_next recalculation.old) (kept parts.old recalculation.old)
         (D.moments disk.old) (D.moments disk.new) }
     ensures writes { WritesAs actor parts.old recalculation.old (D.moments disk.old) (D.moments disk.new) }

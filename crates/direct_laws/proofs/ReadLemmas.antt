@@ -110,7 +110,7 @@ keeps_begun d awaiting tags c stands image flushed waits placed =
           true≢false (sym is ∙ other (awaiting (region_of d.geometry b)) (is_to_recalculate d.superblock d.geometry b) (waits b low is) awaits)) in
           placed b low
           ∙ placed_tag d.geometry d.sectors stands.formed.is_geometry (last_image c) whole b low (cell_now d b) ((now_cells d stands.formed).tag b low)
-          (λ i i_low. (stands.each (tag_byte_at d.geometry b i).0 (last_image c (tag_byte_at d.geometry b i).0) (image (tag_byte_at d.geometry b i).0)).tags b i low i_low still (kept b) refl);
+          (λ i i_low. (stands.each (tag_byte_at d.geometry b i).sector (last_image c (tag_byte_at d.geometry b i).sector) (image (tag_byte_at d.geometry b i).sector)).tags b i low i_low still (kept b) refl);
     }
 
 -- A block that is to be recalculated awaits at opening, where there is no bitmap.

@@ -57,7 +57,7 @@ put_in_tags store sectors block sector tag x start geometry low of =
     let span = tag-span store.geometry sectors block store.geometry.shape.tag_size geometry low refl in
     ⊎_elim (λ out. out.marked.tags)
     (λ first. HoldsTag-span store.geometry block store.geometry.shape.tag_size sector low refl
-    (first_in_span (tag_at store.geometry block).0 (tag_at store.geometry block).1 store.geometry.shape.tag_size sector span.begins span.some first.0.is)) of
+    (first_in_span (tag_at store.geometry block).sector (tag_at store.geometry block).byte store.geometry.shape.tag_size sector span.begins span.some first.0.is)) of
 
 -- while it is written,
 pub writes_in_place : (store : Store) (disk : DiskIdentity) (block : ℕ) (bytes tag : List ℕ) {a b : List Content} → IsStore store disk a → block < store.geometry.blocks

@@ -139,7 +139,7 @@ module _ (store : Store) (disk now : DiskIdentity) (block : ℕ) (bytes tag : Li
       let span = tag-span store.geometry disk.sectors block store.geometry.shape.tag_size is.geometry block_.low refl in
       let came = same_at_end store disk now block bytes is there block_.size data_ middle told_middle in
       let holds = HoldsTag-span store.geometry block store.geometry.shape.tag_size sector block_.low refl
-      (first_in_span (tag_at store.geometry block).0 (tag_at store.geometry block).1 store.geometry.shape.tag_size sector span.begins span.some first.is) in
+      (first_in_span (tag_at store.geometry block).sector (tag_at store.geometry block).byte store.geometry.shape.tag_size sector span.begins span.some first.is) in
       let same : middle sector ≡ start sector = came.2 sector holds ∙ ap (λ (c : Content). c sector) (same_Some came.0 start (sym came.1 ∙ told)) in
       ap (λ (xs : List (List ℕ)). with_tag store.geometry block tag (given store (λ s. xs)) sector) same
 

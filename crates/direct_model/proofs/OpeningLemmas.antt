@@ -64,7 +64,7 @@ module _ (d : DiskFormat) (image : Image) (told : TellsFields d image) (clear : 
             ap image there ∙ sym (placed_sector g d.sectors image b k told.is_geometry whole low k_low)
             ∙ ap (λ (bytes : List ℕ). sector_in bytes k) (sym (bytes-is b));
         tags = λ b i low i_low rests kept there.
-            ap (λ (n : ℕ). slice_index (image n) (tag_byte_at g b i).1) there
+            ap (λ (n : ℕ). slice_index (image n) (tag_byte_at g b i).byte) there
             ∙ sym (placed_tag-byte g d.sectors told.is_geometry image whole b low (placed_cells_of g image b) i i_low)
             ∙ ap (λ (tag : List ℕ). slice_index tag i) (sym (tag-rests b rests));
       }

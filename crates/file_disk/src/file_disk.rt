@@ -6,6 +6,7 @@ ghost use Rattle.disk_model.specs.Causes.{HasCause, Rose};
 ghost use Rattle.disk_model.specs.Disk.{AddsSome, IsImage, IsRun, Reads, last_image, newest_only, with_run};
 ghost use Rattle.disk_model.specs.Identity.{IsBound, IsBoundTo};
 ghost use Rattle.disk_model.specs.Moments.{EachSince, HasNow, IsChangedBy, content_now};
+ghost use Rattle.sector_disk.specs.Faults.{one_more};
 ghost use Rattle.file_disk.specs.Files.{BindsAgain, HasCauseOf, IsForWrites, ServesFor, TellsSame, TellsSameOf, named_as, no_disk, of_file};
 
 use crate::transfer::{open_file, read_all, sync_all, write_all};
@@ -20,17 +21,20 @@ pub struct FileDisk<O: Folder + Drop> {
     pub(crate) folder: O,
     pub(crate) file: Option<O::File>,
     faults: u64,
+    // How often it was read.
+    reads: u64,
 }
 
 impl<O: Folder + Drop> FileDisk<O> {
     /// Makes a disk that is bound to no file. It opens none.
     pub fn new(folder: O) -> FileDisk<O>
-        ensures { result ≡ record { folder = folder; file = None; faults = 0 } }
+        ensures { result ≡ record { folder = folder; file = None; faults = 0; reads = 0 } }
     {
         FileDisk {
             folder,
             file: None,
             faults: 0,
+            reads: 0,
         }
     }
 
@@ -130,6 +134,8 @@ impl<O: Folder + Drop> Disk for FileDisk<O> {
 
     ghost moments = { λ disk. of_file [] O.File.moments disk.file };
 
+    ghost reads = { λ disk. disk.reads };
+
     ghost named = { λ disk name.
         named_as O.File.identity O.File.moments (O.named disk.folder name) disk.file };
 
@@ -157,8 +163,10 @@ impl<O: Folder + Drop> Disk for FileDisk<O> {
             ≡ of_file no_disk O.File.identity self.old.file }
         ensures access { of_file Access.Read O.File.access self.new.file
             ≡ of_file Access.Read O.File.access self.old.file }
+        ensures counted { self.new.reads ≡ one_more self.old.reads }
         ensures kept { of_file [] O.File.moments self.new.file ≡ of_file [] O.File.moments self.old.file }
     {
+        self.reads = self.reads.saturating_add(1);
         match &mut self.file {
             Some(file) => read_all(file, SECTOR_SIZE as u64 * at, buffer),
             None => unreachable!(),
@@ -183,6 +191,7 @@ impl<O: Folder + Drop> Disk for FileDisk<O> {
             ≡ of_file no_disk O.File.identity self.old.file }
         ensures access { of_file Access.Read O.File.access self.new.file
             ≡ of_file Access.Read O.File.access self.old.file }
+        ensures unread { self.new.reads ≡ self.old.reads }
 
         ensures moments { EachSince (AddsSome at bytes.now)
             (of_file [] O.File.moments self.old.file) (of_file [] O.File.moments self.new.file) }
@@ -212,6 +221,7 @@ impl<O: Folder + Drop> Disk for FileDisk<O> {
             ≡ of_file no_disk O.File.identity self.old.file }
         ensures access { of_file Access.Read O.File.access self.new.file
             ≡ of_file Access.Read O.File.access self.old.file }
+        ensures unread { self.new.reads ≡ self.old.reads }
 
         ensures moments { EachSince (λ start c. c ≡ newest_only start)
             (of_file [] O.File.moments self.old.file) (of_file [] O.File.moments self.new.file) }

@@ -1,4 +1,5 @@
 //! Where all lies, by the format's formulas and where the kernel put it.
+use image_model::BytePlace;
 use layout::{GeomFault, Geometry, best_provided};
 use std::process::Abort;
 use std::test::Fail;
@@ -44,7 +45,7 @@ struct Sizes {
 struct Place {
     block: u64,
     data_at: u64,
-    tag_at: (u64, u64),
+    tag_at: BytePlace,
 }
 
 // The last block of each row but the kernel's is the last that the disk has room for.
@@ -66,17 +67,26 @@ const SMALL_IMAGES: [Row<'static>; 4] = [
             Place {
                 block: 0,
                 data_at: 104,
-                tag_at: (96, 0),
+                tag_at: BytePlace {
+                    sector: 96,
+                    byte: 0,
+                },
             },
             Place {
                 block: 9,
                 data_at: 121,
-                tag_at: (112, 32),
+                tag_at: BytePlace {
+                    sector: 112,
+                    byte: 32,
+                },
             },
             Place {
                 block: 79,
                 data_at: 255,
-                tag_at: (240, 224),
+                tag_at: BytePlace {
+                    sector: 240,
+                    byte: 224,
+                },
             },
         ],
     },
@@ -100,12 +110,18 @@ const SMALL_IMAGES: [Row<'static>; 4] = [
             Place {
                 block: 0,
                 data_at: 2144,
-                tag_at: (96, 0),
+                tag_at: BytePlace {
+                    sector: 96,
+                    byte: 0,
+                },
             },
             Place {
                 block: 1951,
                 data_at: 4095,
-                tag_at: (217, 480),
+                tag_at: BytePlace {
+                    sector: 217,
+                    byte: 480,
+                },
             },
         ],
     },
@@ -128,7 +144,10 @@ const SMALL_IMAGES: [Row<'static>; 4] = [
         places: &[Place {
             block: 31,
             data_at: 247,
-            tag_at: (232, 28),
+            tag_at: BytePlace {
+                sector: 232,
+                byte: 28,
+            },
         }],
     },
     Row {
@@ -151,12 +170,18 @@ const SMALL_IMAGES: [Row<'static>; 4] = [
             Place {
                 block: 1,
                 data_at: 296,
-                tag_at: (288, 0),
+                tag_at: BytePlace {
+                    sector: 288,
+                    byte: 0,
+                },
             },
             Place {
                 block: 46,
                 data_at: 1016,
-                tag_at: (1008, 0),
+                tag_at: BytePlace {
+                    sector: 1008,
+                    byte: 0,
+                },
             },
         ],
     },
@@ -184,7 +209,10 @@ const LARGE_IMAGES: [Row<'static>; 2] = [
         places: &[Place {
             block: 264_917_609_349_023,
             data_at: 281_474_976_710_655,
-            tag_at: (281_473_080_885_337, 480),
+            tag_at: BytePlace {
+                sector: 281_473_080_885_337,
+                byte: 480,
+            },
         }],
     },
     Row {
@@ -206,7 +234,10 @@ const LARGE_IMAGES: [Row<'static>; 2] = [
         places: &[Place {
             block: 524_311,
             data_at: 2_097_151,
-            tag_at: (2_097_136, 224),
+            tag_at: BytePlace {
+                sector: 2_097_136,
+                byte: 224,
+            },
         }],
     },
 ];
@@ -236,22 +267,34 @@ const KERNEL_IMAGES: [Row<'static>; 3] = [
             Place {
                 block: 20,
                 data_at: 140,
-                tag_at: (112, 400),
+                tag_at: BytePlace {
+                    sector: 112,
+                    byte: 400,
+                },
             },
             Place {
                 block: 25,
                 data_at: 145,
-                tag_at: (112, 500),
+                tag_at: BytePlace {
+                    sector: 112,
+                    byte: 500,
+                },
             },
             Place {
                 block: 121,
                 data_at: 265,
-                tag_at: (232, 500),
+                tag_at: BytePlace {
+                    sector: 232,
+                    byte: 500,
+                },
             },
             Place {
                 block: 319,
                 data_at: 511,
-                tag_at: (473, 108),
+                tag_at: BytePlace {
+                    sector: 473,
+                    byte: 108,
+                },
             },
         ],
     },
@@ -278,12 +321,18 @@ const KERNEL_IMAGES: [Row<'static>; 3] = [
             Place {
                 block: 5,
                 data_at: 268,
-                tag_at: (240, 100),
+                tag_at: BytePlace {
+                    sector: 240,
+                    byte: 100,
+                },
             },
             Place {
                 block: 20,
                 data_at: 336,
-                tag_at: (312, 80),
+                tag_at: BytePlace {
+                    sector: 312,
+                    byte: 80,
+                },
             },
         ],
     },
@@ -310,12 +359,18 @@ const KERNEL_IMAGES: [Row<'static>; 3] = [
             Place {
                 block: 0,
                 data_at: 616,
-                tag_at: (360, 0),
+                tag_at: BytePlace {
+                    sector: 360,
+                    byte: 0,
+                },
             },
             Place {
                 block: 269,
                 data_at: 1141,
-                tag_at: (872, 416),
+                tag_at: BytePlace {
+                    sector: 872,
+                    byte: 416,
+                },
             },
         ],
     },

@@ -74,6 +74,18 @@ impl Key {
         Ok(Key { bytes })
     }
 
+    /// The same key once more.
+    ///
+    /// # Errors
+    ///
+    /// - `AllocError`: memory ran out.
+    fn twin(&self, alloc: Global) -> Result<Key, AllocError>
+        ensures { IfOk result (λ key. key ≡ self.now) }
+    {
+        let bytes = Vec::from_slice(alloc, self.bytes.as_slice())?;
+        Ok(Key { bytes })
+    }
+
     pub(crate) fn bytes(&self) -> &[u8]
         ensures { result.now ≡ self.now }
     {
@@ -92,4 +104,20 @@ pub enum Hash {
     ///
     /// Source: FIPS 198-1.
     Hmac(Key),
+}
+
+impl Hash {
+    /// The same hash once more, for another device under the same key.
+    ///
+    /// # Errors
+    ///
+    /// - `AllocError`: memory ran out.
+    pub fn twin(&self, alloc: Global) -> Result<Hash, AllocError>
+        ensures { IfOk result (λ hash. hash ≡ self.now) }
+    {
+        match self {
+            Hash::Sha256 => Ok(Hash::Sha256),
+            Hash::Hmac(key) => Ok(Hash::Hmac(key.twin(alloc)?)),
+        }
+    }
 }

@@ -25,13 +25,13 @@ use Rattle.journal_reading.specs.Newest.{newest_in}
 use Rattle.place_model.specs.Format.{DiskFormat, format_on}
 use Rattle.sector_window.specs.Window.{HasRoom, Window}
 use Rattle.sector_window.proofs.WindowLemmas.{fresh_window}
-use Rattle.image_check.specs.Bad.{bad_block, bad_blocks, bad_by, bad_cell, bad_placed, first_bad_from}
-use Rattle.image_check.specs.declared.bad.Bad.{Bad}
-use Rattle.image_check.specs.Checked.{Checked, IsCheckOf, IsJournalOf, IsLookedAt, IsSameCheck, awaiting_at, bad_kept, checked_format, is_passed}
+use Rattle.check_model.specs.Bad.{bad_block, bad_blocks, bad_by, bad_cell, bad_placed, first_bad_from}
+use Rattle.check_model.specs.declared.bad.Bad.{Bad}
 use Rattle.image_model.specs.declared.judged.What.{What}
 use Rattle.image_model.specs.declared.judged.What.TheVariants.{Cells, Placed}
-use Rattle.image_check.specs.declared.report.Report.{Report}
-use Rattle.image_check.specs.Report.{IsReportOf, awaiting_below, awaiting_in, with_found}
+use Rattle.check_model.specs.declared.report.Report.{Report}
+use Rattle.check_model.specs.Report.{IsReportOf, awaiting_below, awaiting_in, with_found}
+use Rattle.image_check.specs.Checked.{Checked, IsCheckOf, IsJournalOf, IsLookedAt, IsSameCheck, awaiting_at, bad_kept, checked_format, is_passed}
 
 -- ---- one block
 

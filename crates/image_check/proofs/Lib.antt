@@ -1,4 +1,2 @@
-pub mod JudgingLemmas
 pub mod ReadingLemmas
 pub mod CheckedLemmas
-mod Worked

@@ -19,10 +19,10 @@ use Rattle.journal_reading.specs.declared.reading.JudgedJournal.{JudgedJournal}
 use Rattle.journal_reading.specs.Journal.{IsJudgedOn}
 use Rattle.journal_reading.specs.Newest.{newest_in}
 use Rattle.journal_reading.proofs.IndexLemmas.{index-some}
-use Rattle.image_judging.specs.Faults.{fault_by}
+use Rattle.judging_model.specs.Faults.{fault_by}
 use Rattle.image_model.specs.declared.judged.What.{What}
 use Rattle.image_model.specs.declared.judged.What.TheVariants.{Cells}
-use Rattle.image_check.specs.Faults.{TellsFault, fault_for, journal_fault_for}
+use Rattle.check_model.specs.Faults.{TellsFault, fault_for, journal_fault_for}
 use Rattle.image_check.specs.Index.{IsIndexOn}
 
 -- The newest entries of a journal in which nothing is refused are its index.

@@ -13,12 +13,12 @@ use Rattle.hmac_tag.specs.TagMaker.{TagRule}
 use Rattle.journal_reading.specs.Newest.{newest_in}
 use Rattle.place_model.specs.Format.{DiskFormat, format_on}
 use Rattle.sector_window.specs.Window.{HasRoom, Window}
-use Rattle.image_check.specs.Bad.{bad_block, bad_blocks, bad_placed, first_bad_from}
-use Rattle.image_check.specs.declared.bad.Bad.{Bad}
+use Rattle.check_model.specs.Bad.{bad_block, bad_blocks, bad_placed, first_bad_from}
+use Rattle.check_model.specs.declared.bad.Bad.{Bad}
 use Rattle.image_model.specs.declared.judged.What.{What}
 use Rattle.image_model.specs.declared.judged.What.TheVariants.{Cells, Placed}
+use Rattle.check_model.specs.Report.{awaiting_in}
 use Rattle.image_check.specs.Index.{IsIndexOn}
-use Rattle.image_check.specs.Report.{awaiting_in}
 
 -- Its format, the rule of its tags, what is judged, which blocks have an entry in its journal, where that is looked at, and
 -- what was read last.

@@ -7,8 +7,8 @@ ghost use Rattle.disk_model.specs.Moments.{HasNow};
 ghost use Rattle.hmac_tag.specs.TagMaker.{key_of};
 ghost use Rattle.image_format.specs.Format.{IsFormat, IsReadNow};
 ghost use Rattle.image_refusal.specs.Calls.{HasCallCause};
+ghost use Rattle.check_model.specs.Faults.{TellsFault, TellsJournalFault, fault_for, journal_fault_for};
 ghost use Rattle.image_check.specs.Checked.{IsCheckOf, IsSameCheck, awaiting_at, bad_at, bad_behind};
-ghost use Rattle.image_check.specs.Faults.{TellsFault, TellsJournalFault, fault_for, journal_fault_for};
 
 use crate::judging::judge_placed;
 use crate::opening::{read_journal, tag_maker};

@@ -6,7 +6,7 @@ ghost use Rattle.disk_model.specs.Moments.{HasNow};
 ghost use Rattle.image_model.specs.Geometry.{IsGeometry};
 ghost use Rattle.image_model.specs.Openable.{journal_fault_of};
 ghost use Rattle.image_refusal.specs.Calls.{HasCallCause};
-ghost use Rattle.image_check.specs.Faults.{TellsJournalFault};
+ghost use Rattle.check_model.specs.Faults.{TellsJournalFault};
 ghost use Rattle.image_check.specs.Index.{IsIndexOn};
 
 use hmac_tag::TagMaker;

@@ -7,7 +7,7 @@ ghost use Rattle.disk_model.specs.Identity.{IsBound};
 ghost use Rattle.disk_model.specs.Moments.{HasNow};
 ghost use Rattle.image_model.specs.Cells.{block_tag};
 ghost use Rattle.image_model.specs.Geometry.{IsGeometry};
-ghost use Rattle.image_check.specs.Bad.{bad_by, bad_placed};
+ghost use Rattle.check_model.specs.Bad.{bad_by, bad_placed};
 ghost use Rattle.sector_window.specs.Window.{HasRoom};
 
 use crate::Bad;
@@ -76,12 +76,12 @@ pub(crate) fn judge_placed<D: Disk>(
     ensures identity { D.identity disk.new ≡ D.identity disk.old }
     ensures kept { D.moments disk.new ≡ D.moments disk.old }
 {
-    let (tag_at, from) = geometry.tag_at(block);
+    let tag_at = geometry.tag_at(block);
     let at = geometry.data_at(block);
     let shape = geometry.shape();
-    tags.show(disk, tag_at, TAG_SECTORS)?;
+    tags.show(disk, tag_at.sector, TAG_SECTORS)?;
     blocks.show(disk, at, shape.spb)?;
-    let from = from as usize;
-    let stored = &tags.run(tag_at, TAG_SECTORS)[from..from + shape.tag as usize];
+    let from = tag_at.byte as usize;
+    let stored = &tags.run(tag_at.sector, TAG_SECTORS)[from..from + shape.tag as usize];
     Ok(judge(geometry, maker, block, stored, blocks.run(at, shape.spb)))
 }

@@ -1,11 +1,10 @@
 //! Checks an image: which blocks have a stored tag that is not the tag of their bytes.
 //!
-//! The image is opened and gone over in order, and nothing is written. A contract tells the bad blocks by the model of
-//! an image (`specs/Bad.antt`, the file to read first), and a `CheckedImage` by what it keeps of one
+//! The image is opened and gone over in order, and nothing is written. A contract gives the bad blocks by the model of
+//! an image (`Bad.antt` of `check_model`, the file to read first), and a `CheckedImage` by what it keeps of one
 //! (`specs/Checked.antt`).
 #![tactic(auto)]
 
-mod bad;
 mod checked_image;
 mod index;
 mod judging;
@@ -13,7 +12,7 @@ mod opening;
 mod passing;
 mod report;
 
-pub use bad::Bad;
+pub use check_model::{Bad, Report};
 pub use checked_image::CheckedImage;
 pub use image_model::What;
-pub use report::{Report, check};
+pub use report::check;

@@ -7,9 +7,9 @@ ghost use Rattle.image_model.specs.Cells.{salt_of};
 ghost use Rattle.image_model.specs.Superblock.{has_flag};
 ghost use Rattle.hmac_tag.specs.TagMaker.{key_of};
 ghost use Rattle.image_format.specs.Format.{IsFormat};
-ghost use Rattle.image_check.specs.Checked.{IsJournalOf};
 ghost use Rattle.image_refusal.specs.Calls.{HasCallCause};
-ghost use Rattle.image_check.specs.Faults.{TellsJournalFault, journal_fault_for};
+ghost use Rattle.check_model.specs.Faults.{TellsJournalFault, journal_fault_for};
+ghost use Rattle.image_check.specs.Checked.{IsJournalOf};
 
 use crate::What;
 use crate::index::read_index;

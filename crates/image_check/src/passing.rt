@@ -8,8 +8,8 @@ ghost use Rattle.disk_model.specs.Moments.{HasNow};
 ghost use Rattle.image_model.specs.Bitmap.{awaits, is_to_recalculate};
 ghost use Rattle.image_model.specs.Geometry.{IsGeometry};
 ghost use Rattle.image_format.specs.Format.{IsFormat};
+ghost use Rattle.check_model.specs.Report.{awaiting_below};
 ghost use Rattle.image_check.specs.Checked.{awaits_in, has_entry, is_passed};
-ghost use Rattle.image_check.specs.Report.{awaiting_below};
 ghost use Rattle.sector_window.specs.Window.{HasRoom};
 
 use crate::What;

@@ -1,32 +1,20 @@
-//! What a check tells of an image.
+//! An image is checked as a whole, and its bad blocks are listed.
 ghost use Rattle.std.specs.Prelude.{◌≡◌, IfOk, None, OnOk};
 ghost use Rattle.disk_model.specs.Disk.{last_image};
 ghost use Rattle.disk_model.specs.Identity.{IsBound};
 ghost use Rattle.disk_model.specs.Moments.{HasNow};
 ghost use Rattle.hmac_tag.specs.TagMaker.{key_of};
 ghost use Rattle.image_refusal.specs.Calls.{HasCallCause};
-ghost use Rattle.image_judging.specs.Faults.{fault_in};
+ghost use Rattle.judging_model.specs.Faults.{fault_in};
+ghost use Rattle.check_model.specs.Faults.{TellsFault, fault_for};
+ghost use Rattle.check_model.specs.Report.{IsReportOn, with_found};
 ghost use Rattle.image_check.specs.Checked.{IsCheckOf, IsSameCheck, bad_in};
-ghost use Rattle.image_check.specs.Faults.{TellsFault, fault_for};
-ghost use Rattle.image_check.specs.Report.{IsReportOn, with_found};
 
-use crate::{Bad, CheckedImage, What};
+use crate::{Bad, CheckedImage, Report, What};
 use hmac_tag::Hash;
 use image_refusal::{CallFault, OpenFault};
 use sector_disk::{Disk, Memory};
 use std::alloc::Global;
-
-/// What a check tells of an image.
-#[derive(Debug, Drop)]
-pub struct Report {
-    /// How many blocks the device has.
-    pub blocks: u64,
-    /// How many of them await their tags: with a bitmap those of dirty regions, and without one those that are to be
-    /// recalculated.
-    pub awaiting: u64,
-    /// The bad ones, in order.
-    pub bad: Vec<Bad>,
-}
 
 /// Checks an image, and lists its bad blocks. Nothing is written. Memory is taken for the journal where it is looked
 /// at, for what is read, and for the list.

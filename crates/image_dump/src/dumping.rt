@@ -7,7 +7,7 @@ ghost use Rattle.image_model.specs.declared.flags.TheConstants.{DIRTY_BITMAP};
 ghost use Rattle.image_model.specs.Superblock.{has_flag};
 ghost use Rattle.image_format.specs.Format.{IsFormat, format_of};
 ghost use Rattle.image_refusal.specs.Calls.{HasCallCause, TellsCause};
-ghost use Rattle.image_dump.specs.Dump.{dump_in, dump_of};
+ghost use Rattle.dump_model.specs.Dump.{dump_in, dump_of};
 
 use crate::{Dump, DumpJournal};
 use bitmap_reading::count_dirty;

@@ -1,7 +1,7 @@
 //! The text of a dump, line by line.
 ghost use Rattle.std.specs.Prelude.{◌≡◌, ◌*◌, ◌^◌, ◌<◌, ◌≤◌, [], ◌∷◌, ◌++◌, IfOk, OnOk};
 ghost use Rattle.image_model.specs.Superblock.{IsAccepted};
-ghost use Rattle.image_dump.specs.Lines.{dump_lines, joined_lines, journal_lines, layout_lines, state_text, superblock_lines};
+ghost use Rattle.dump_model.specs.Lines.{dump_lines, joined_lines, journal_lines, layout_lines, state_text, superblock_lines};
 
 use crate::pieces::{put, put_bytes, put_flags, put_number, put_numbers};
 use crate::{Dump, DumpJournal};

@@ -1,13 +1,2 @@
-pub mod Bits
-pub mod Blocks
 pub mod Tagging
-pub mod FirstSector
-pub mod Formatted
-pub mod FormattedLaws
-pub mod Journal
-pub mod NewImage
-pub mod Order
 pub mod Room
-pub mod Runs
-pub mod Stays
-pub mod Written

@@ -6,8 +6,8 @@ ghost use Rattle.disk_model.specs.Identity.{IsBound};
 ghost use Rattle.disk_model.specs.Moments.{EachSince, HasNow};
 ghost use Rattle.image_model.specs.Geometry.{IsGeometry, journal_sectors, section_sectors};
 ghost use Rattle.journal_section.specs.Entries.{IsWithin};
-ghost use Rattle.image_formatting.specs.Journal.{IsEmptyBehind};
-ghost use Rattle.image_formatting.specs.Runs.{ChangesOnly};
+ghost use Rattle.formatting_model.specs.Journal.{IsEmptyBehind};
+ghost use Rattle.formatting_model.specs.Runs.{ChangesOnly};
 
 use image_model::SECTOR_SIZE;
 use journal_section::clear;

@@ -7,12 +7,12 @@ ghost use Rattle.disk_model.specs.Moments.{EachSince, HasNow};
 ghost use Rattle.image_format.specs.Format.{IsFormat};
 ghost use Rattle.image_model.specs.Geometry.{IsGeometry, journal_sectors, section_sectors};
 ghost use Rattle.journal_section.specs.Entries.{IsWithin};
-ghost use Rattle.image_formatting.specs.Formatted.{HasBlocks, HasFilled, IsBlocksByte, IsBlocksSector, IsFillSector, IsImageByte};
-ghost use Rattle.image_formatting.specs.Journal.{HasJournalPlace, bitmap_taken, has_bitmap, regions_set};
+ghost use Rattle.formatting_model.specs.Formatted.{HasBlocks, HasFilled, IsBlocksByte, IsBlocksSector, IsFillSector, IsImageByte};
+ghost use Rattle.formatting_model.specs.Journal.{HasJournalPlace, bitmap_taken, has_bitmap, regions_set};
+ghost use Rattle.formatting_model.specs.Runs.{ChangesOnly};
+ghost use Rattle.formatting_model.specs.Stays.{ReadsKeep};
+ghost use Rattle.formatting_model.specs.Written.{IsOfFormat, IsOfWipe, OnlyWrites};
 ghost use Rattle.image_formatting.specs.Room.{HasRoom, HasRuns};
-ghost use Rattle.image_formatting.specs.Runs.{ChangesOnly};
-ghost use Rattle.image_formatting.specs.Stays.{ReadsKeep};
-ghost use Rattle.image_formatting.specs.Written.{IsOfFormat, IsOfWipe, OnlyWrites};
 
 use crate::emptying::empty;
 use crate::marking::write_bits;

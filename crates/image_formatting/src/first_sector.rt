@@ -8,8 +8,8 @@ ghost use Rattle.disk_model.specs.Disk.{OnlyAdds};
 ghost use Rattle.disk_model.specs.Identity.{IsBound};
 ghost use Rattle.disk_model.specs.Moments.{EachSince, IsChangedBy};
 ghost use Rattle.image_model.specs.Superblock.{IsAccepted, superblock_of};
-ghost use Rattle.image_formatting.specs.FirstSector.{HasZeroHead, IsAmidFounding, IsFirst, forgotten, founded, head_of, zero_sector};
-ghost use Rattle.image_formatting.specs.Order.{IsForgotten, IsInOrder, IsUnsettled, SyncsFirst};
+ghost use Rattle.formatting_model.specs.FirstSector.{HasZeroHead, IsAmidFounding, IsFirst, forgotten, founded, head_of, zero_sector};
+ghost use Rattle.formatting_model.specs.Order.{IsForgotten, IsInOrder, IsUnsettled, SyncsFirst};
 
 use image_model::SECTOR_SIZE;
 use sector_disk::{Disk, Failed};

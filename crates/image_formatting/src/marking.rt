@@ -5,8 +5,8 @@ ghost use Rattle.disk_model.specs.Disk.{last_image};
 ghost use Rattle.disk_model.specs.Identity.{IsBound};
 ghost use Rattle.disk_model.specs.Moments.{EachSince, HasNow};
 ghost use Rattle.journal_section.specs.Entries.{IsWithin};
-ghost use Rattle.image_formatting.specs.Bits.{HasBits, HoldsBits, IsWhole, bits_byte};
-ghost use Rattle.image_formatting.specs.Runs.{ChangesOnly};
+ghost use Rattle.formatting_model.specs.Bits.{HasBits, HoldsBits, IsWhole, bits_byte};
+ghost use Rattle.formatting_model.specs.Runs.{ChangesOnly};
 
 use image_model::SECTOR_SIZE;
 use sector_disk::{Disk, Failed};

@@ -3,9 +3,9 @@ ghost use Rattle.std.specs.Prelude.{◌≡◌, Err, IfErr, IfOk, Ok};
 ghost use Rattle.image_model.specs.Geometry.{fitting_log2_region, layout_of};
 ghost use Rattle.image_model.specs.Superblock.{HasLayout};
 ghost use Rattle.image_format.specs.Format.{IsFormat};
-ghost use Rattle.image_formatting.specs.NewImage.{IsNewImage, asked_fields, fields_of, fields_with, flags_of, provided_of};
+ghost use Rattle.formatting_model.specs.NewImage.{IsNewImage, asked_fields, fields_of, fields_with, flags_of, provided_of};
 
-use crate::new_image::NewImage;
+use formatting_model::NewImage;
 use image_format::ImageFormat;
 use image_model::{
     DIRTY_BITMAP, FIXED_HMAC, FIXED_PADDING, GeomFault, ImageMode, Padding, RECALCULATING, Wipe,

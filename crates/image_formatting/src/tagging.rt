@@ -8,11 +8,11 @@ ghost use Rattle.disk_model.specs.Moments.{EachSince, HasNow};
 ghost use Rattle.image_model.specs.Geometry.{quotient_up};
 ghost use Rattle.image_model.specs.Sectors.{zero_bytes};
 ghost use Rattle.journal_section.specs.Entries.{IsWithin};
-ghost use Rattle.image_formatting.specs.Blocks.{HasTagRun, HoldsTags};
+ghost use Rattle.formatting_model.specs.Blocks.{HasTagRun, HoldsTags};
+ghost use Rattle.formatting_model.specs.Runs.{ChangesOnly};
+ghost use Rattle.formatting_model.specs.Stays.{IsRunByte, ReadsKeep};
+ghost use Rattle.formatting_model.specs.Written.{IsOfTagRun, OnlyWrites};
 ghost use Rattle.image_formatting.specs.Tagging.{HasReadBehind, LiesOn, MakesTags};
-ghost use Rattle.image_formatting.specs.Runs.{ChangesOnly};
-ghost use Rattle.image_formatting.specs.Stays.{IsRunByte, ReadsKeep};
-ghost use Rattle.image_formatting.specs.Written.{IsOfTagRun, OnlyWrites};
 
 use commit_id::Shape;
 use hmac_tag::{Tag, TagMaker};

@@ -6,11 +6,11 @@ ghost use Rattle.disk_model.specs.Identity.{IsBound};
 ghost use Rattle.disk_model.specs.Moments.{EachSince, HasNow};
 ghost use Rattle.image_model.specs.Geometry.{IsGeometry};
 ghost use Rattle.image_format.specs.Format.{IsFormat};
-ghost use Rattle.image_formatting.specs.Blocks.{HasZeroBlocks, IsAreaRun, IsSectorOf};
+ghost use Rattle.formatting_model.specs.Blocks.{HasZeroBlocks, IsAreaRun, IsSectorOf};
+ghost use Rattle.formatting_model.specs.Runs.{ChangesOnly};
+ghost use Rattle.formatting_model.specs.Stays.{IsBlockByte, ReadsKeep};
+ghost use Rattle.formatting_model.specs.Written.{IsOfBlocks, OnlyWrites};
 ghost use Rattle.image_formatting.specs.Room.{tags_at_once, zeros_at_once};
-ghost use Rattle.image_formatting.specs.Runs.{ChangesOnly};
-ghost use Rattle.image_formatting.specs.Stays.{IsBlockByte, ReadsKeep};
-ghost use Rattle.image_formatting.specs.Written.{IsOfBlocks, OnlyWrites};
 
 use crate::tagging::write_tags;
 use crate::zeroing::write_zeros;
@@ -92,7 +92,7 @@ fn wipe_area<D: Disk>(
         (D.moments disk.old) (D.moments disk.new) }
     ensures writes { OnlyWrites (IsOfBlocks geometry.now first count) (D.moments disk.old) (D.moments disk.new) }
 {
-    let (tags_at, _) = geometry.tag_at(first);
+    let tags_at = geometry.tag_at(first).sector;
     let data_at = geometry.data_at(first);
     let shape = geometry.shape();
     write_tags(disk, maker, shape, zeros, tags, tags_at, first, count)?;

@@ -1,3 +1,1 @@
-pub mod FaultsLemmas
-pub mod FaultLawsLemmas
-mod Worked
+pub mod JournalLemmas

@@ -2,12 +2,12 @@
 ghost use Rattle.std.specs.Prelude.{◌≡◌, ◌↔◌, true, false, IfErr, IsOk};
 ghost use Rattle.image_model.specs.Bitmap.{some_await};
 ghost use Rattle.hmac_tag.specs.TagMaker.{key_of};
-ghost use Rattle.image_judging.specs.Faults.{lacks_consent};
+ghost use Rattle.judging_model.specs.Faults.{lacks_consent};
 
-use crate::consent::Consent;
 use hmac_tag::Hash;
 use image_model::{RECALCULATING, Super};
 use image_refusal::{CallFault, OpenFault};
+use judging_model::Consent;
 
 /// Judges whether tags of an image without a bitmap may be made anew, by its fields alone.
 ///

@@ -39,7 +39,7 @@ pub sector_at-block : (g : Geometry) (b blocks j : ℕ) → 0 < blocks → g.int
 sector_at-block g b blocks j some whole inside =
     omega (arith, sector_at-is g b blocks j some whole inside, data_at-is g b blocks some whole (omega arith))
 
-tag_at-is : (g : Geometry) (b blocks : ℕ) → 0 < blocks → g.interleave ≡ blocks * g.shape.spb → 0 < g.shape.spb → 512 * (tag_at g b).0 + (tag_at g b).1 ≡ 512 * area_at g (b / blocks) + b % blocks * g.shape.tag_size
+tag_at-is : (g : Geometry) (b blocks : ℕ) → 0 < blocks → g.interleave ≡ blocks * g.shape.spb → 0 < g.shape.spb → 512 * (tag_at g b).sector + (tag_at g b).byte ≡ 512 * area_at g (b / blocks) + b % blocks * g.shape.tag_size
 unfolding tag_at tag_offset
 tag_at-is g b blocks some whole positive =
     let at = sector_of_block b g.shape.spb blocks 0 some positive in
@@ -57,7 +57,7 @@ pub record IsPlaced (g : Geometry) (b : ℕ) : Type 0 where
   pub place_low : place < g.interleave / g.shape.spb
   pub data_is : data_at g b ≡ area_at g area + g.tag_run + place * g.shape.spb
   pub data_ends : place * g.shape.spb + g.shape.spb ≤ g.interleave
-  pub tag_is : 512 * (tag_at g b).0 + (tag_at g b).1 ≡ 512 * area_at g area + place * g.shape.tag_size
+  pub tag_is : 512 * (tag_at g b).sector + (tag_at g b).byte ≡ 512 * area_at g area + place * g.shape.tag_size
   pub tag_ends : place * g.shape.tag_size + g.shape.tag_size ≤ 512 * g.tag_run
 
 -- An area has a block.
@@ -110,7 +110,7 @@ data_in_order g b c p q before =
     ]
 
 -- The tag of a block ends before that of a later one begins.
-pub tags_in_order : (g : Geometry) (b c : ℕ) → IsPlaced g b → IsPlaced g c → b < c → 512 * (tag_at g b).0 + (tag_at g b).1 + g.shape.tag_size ≤ 512 * (tag_at g c).0 + (tag_at g c).1
+pub tags_in_order : (g : Geometry) (b c : ℕ) → IsPlaced g b → IsPlaced g c → b < c → 512 * (tag_at g b).sector + (tag_at g b).byte + g.shape.tag_size ≤ 512 * (tag_at g c).sector + (tag_at g c).byte
 tags_in_order g b c p q before =
     elim (in_order (g.interleave / g.shape.spb) p.area p.place q.area q.place p.place_low q.place_low (omega arith)) [
       | inl less ↦ let apart = area_at-lt g p.area q.area less in omega arith
@@ -122,7 +122,7 @@ tags_in_order g b c p q before =
 
 -- A tag and the data of a block lie apart, whichever blocks they are of.
 pub tag_and_data : (g : Geometry) (b c : ℕ) → IsPlaced g b → IsPlaced g c →
-    (512 * (tag_at g b).0 + (tag_at g b).1 + g.shape.tag_size ≤ 512 * data_at g c) ⊎ (512 * data_at g c + 512 * g.shape.spb ≤ 512 * (tag_at g b).0 + (tag_at g b).1)
+    (512 * (tag_at g b).sector + (tag_at g b).byte + g.shape.tag_size ≤ 512 * data_at g c) ⊎ (512 * data_at g c + 512 * g.shape.spb ≤ 512 * (tag_at g b).sector + (tag_at g b).byte)
 tag_and_data g b c p q =
     elim (cases_order p.area q.area) [
       | inl same ↦ let begins : area_at g p.area ≡ area_at g q.area = ap (area_at g) same in inl (omega arith)
@@ -151,12 +151,12 @@ data_at-inside g sectors b h inside =
     )
 
 -- The byte where a tag begins is one of its sector.
-tag_at-byte : (g : Geometry) (b : ℕ) → (tag_at g b).1 < 512
+tag_at-byte : (g : Geometry) (b : ℕ) → (tag_at g b).byte < 512
 unfolding tag_at tag_offset
 tag_at-byte g b = mod_below (b * g.shape.spb % g.interleave / g.shape.spb * g.shape.tag_size) 512 (omega arith)
 
 -- The tag of a block begins behind the journal, and ends on the disk, where the data of its area begin or before.
-pub tag_at-inside : (g : Geometry) (sectors b : ℕ) → IsGeometry g sectors → b < g.blocks → (initial g ≤ (tag_at g b).0) × (512 * (tag_at g b).0 + (tag_at g b).1 + g.shape.tag_size ≤ 512 * data_at g b) × ((tag_at g b).1 < 512)
+pub tag_at-inside : (g : Geometry) (sectors b : ℕ) → IsGeometry g sectors → b < g.blocks → (initial g ≤ (tag_at g b).sector) × (512 * (tag_at g b).sector + (tag_at g b).byte + g.shape.tag_size ≤ 512 * data_at g b) × ((tag_at g b).byte < 512)
 tag_at-inside g sectors b h inside =
     let p = placed g sectors b h in
     let low = tag_at-byte g b in
@@ -166,7 +166,7 @@ tag_at-inside g sectors b h inside =
     (omega arith, omega arith, low)
 
 -- A sector with a byte of a tag holds no data.
-pub tag_sector-no_data : (g : Geometry) (sectors b c sector k : ℕ) → IsGeometry g sectors → 512 * (tag_at g b).0 + (tag_at g b).1 < 512 * (sector + 1) → 512 * sector < 512 * (tag_at g b).0 + (tag_at g b).1 + g.shape.tag_size → k < g.shape.spb → sector ≢ data_at g c + k
+pub tag_sector-no_data : (g : Geometry) (sectors b c sector k : ℕ) → IsGeometry g sectors → 512 * (tag_at g b).sector + (tag_at g b).byte < 512 * (sector + 1) → 512 * sector < 512 * (tag_at g b).sector + (tag_at g b).byte + g.shape.tag_size → k < g.shape.spb → sector ≢ data_at g c + k
 tag_sector-no_data g sectors b c sector k h begins ends inside same =
     elim (tag_and_data g b c (placed g sectors b h) (placed g sectors c h)) [ inl before ↦ omega arith | inr behind ↦ omega arith ]
 

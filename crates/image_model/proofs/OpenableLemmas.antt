@@ -8,6 +8,7 @@ use Rattle.std.proofs.lemmas.Nat.{div-add-mod'}
 use Rattle.std.proofs.lemmas.Option.{none-some}
 use Rattle.std.proofs.lemmas.Slice.Eq.{bytes_eq-Decides}
 use Rattle.disk_model.specs.Disk.{Image}
+use Rattle.image_model.specs.declared.entry_place.EntryPlace.{EntryPlace}
 use Rattle.image_model.specs.declared.flags.TheConstants.{DIRTY_BITMAP}
 use Rattle.image_model.specs.Cells.{salt_of, block_tag, entry_of, entry_places, counted_sections, replayed_entries}
 use Rattle.image_model.specs.Geometry.{Geometry, layout_of, IsGeometry}
@@ -23,7 +24,7 @@ use Rattle.image_model.proofs.SuperblockLemmas.{superblock_told}
 use Rattle.image_model.proofs.NumberLemmas.{cases_option}
 
 -- An entry that can be replayed has no fault,
-pub entry_fault-replayable : (key salt : Option (List ℕ)) (g : Geometry) (place : ℕ × ℕ) (entry : Entry) → IsReplayable key salt g entry → entry_fault key salt g place entry ≡ None
+pub entry_fault-replayable : (key salt : Option (List ℕ)) (g : Geometry) (place : EntryPlace) (entry : Entry) → IsReplayable key salt g entry → entry_fault key salt g place entry ≡ None
 unfolding entry_fault
 entry_fault-replayable key salt g place entry is =
     let starts : is_block_start g entry.sector ≡ true = and_from _ _ (eq-eqb (entry.sector % g.shape.spb) 0 is.whole) (lt-ltb entry.sector (g.blocks * g.shape.spb) is.inside) in
@@ -31,7 +32,7 @@ entry_fault-replayable key salt g place entry is =
     rw (starts, same) refl
 
 -- and one that has none can be replayed.
-pub entry_fault_none : (key salt : Option (List ℕ)) (g : Geometry) (place : ℕ × ℕ) (entry : Entry) → entry_fault key salt g place entry ≡ None → IsReplayable key salt g entry
+pub entry_fault_none : (key salt : Option (List ℕ)) (g : Geometry) (place : EntryPlace) (entry : Entry) → entry_fault key salt g place entry ≡ None → IsReplayable key salt g entry
 unfolding entry_fault
 entry_fault_none key salt g place entry none = elim (cases_Bool (is_block_start g entry.sector)) [
   | inr fails ↦ absurd (none-some _ (sym (rw fails at none)))
@@ -49,10 +50,10 @@ entry_fault_none key salt g place entry none = elim (cases_Bool (is_block_start 
 
 -- Over some places, no used entry has a fault exactly where each can be replayed.
 module _ (key salt : Option (List ℕ)) (g : Geometry) (image : Image) where
-  abbrev fault_of : ℕ × ℕ → Option JournalFault
+  abbrev fault_of : EntryPlace → Option JournalFault
   fault_of place = option_and_then (entry_fault key salt g place) (entry_of g image place)
 
-  no_faults : (places : List (ℕ × ℕ)) → slice_get (filter_map fault_of places) 0 ≡ None → AllByRecursion (IsReplayable key salt g) (filter_map (entry_of g image) places)
+  no_faults : (places : List EntryPlace) → slice_get (filter_map fault_of places) 0 ≡ None → AllByRecursion (IsReplayable key salt g) (filter_map (entry_of g image) places)
   no_faults [] none = tt
   no_faults (place ∷ places) none = elim (cases_option (entry_of g image place)) [
     | inl unused ↦ rw unused (no_faults places (rw unused at none))
@@ -62,7 +63,7 @@ module _ (key salt : Option (List ℕ)) (g : Geometry) (image : Image) where
     ]
   ]
 
-  faults_none : (places : List (ℕ × ℕ)) → AllByRecursion (IsReplayable key salt g) (filter_map (entry_of g image) places) → slice_get (filter_map fault_of places) 0 ≡ None
+  faults_none : (places : List EntryPlace) → AllByRecursion (IsReplayable key salt g) (filter_map (entry_of g image) places) → slice_get (filter_map fault_of places) 0 ≡ None
   faults_none [] each = refl
   faults_none (place ∷ places) each = elim (cases_option (entry_of g image place)) [
     | inl unused ↦ rw unused (faults_none places (rw unused at each))

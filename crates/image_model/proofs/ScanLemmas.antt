@@ -5,13 +5,14 @@ use Rattle.std.proofs.lemmas.Bool.{cases_Bool, cases_eq, cases_lt, true≢false,
 use Rattle.std.proofs.lemmas.List.Sums.{fails_before_first, passes_at_first}
 use Rattle.std.proofs.lemmas.Nat.{div-add-mod', mod_below, div_below, mul-add-lt}
 use Rattle.std.proofs.lemmas.Option.{none-some, same_Some}
+use Rattle.image_model.specs.declared.sector_place.SectorPlace.{SectorPlace}
 use Rattle.image_model.specs.CommitId.{commit_numbers}
 use Rattle.image_model.specs.Below.{any_below}
 use Rattle.image_model.specs.Walk.{bears, is_numbered, occurs, later, newest, reach, whole_sections, state_at, range, plan_at, plan_of, sections_of}
 use Rattle.image_model.specs.declared.journal_plan.State.{State}
 use Rattle.image_model.specs.declared.journal_plan.State.TheVariants.{Rest, Mixed, Erasing}
 use Rattle.image_model.specs.declared.journal_plan.Plan.{Plan}
-use Rattle.image_model.specs.Scan.{SectorCell, Grid, IsGrid, cell_at, cell_number, number_at, found_in, is_zero, numbers_of, is_blank_sector, is_blank_with, blank_number, first_place, scan_fault_of, walk_of_grid}
+use Rattle.image_model.specs.Scan.{SectorCell, Grid, IsGrid, cell_at, cell_number, number_at, found_in, is_zero, numbers_of, is_blank_sector, is_blank_with, blank_number, first_place, scan_fault_of, walk_of_grid, sector_place}
 use Rattle.image_model.specs.declared.sector_cell.Cell.TheVariants.{Number, Zero, Other}
 use Rattle.image_model.specs.Tables.{IsWalkOfTwo, IsBlankSector, IsBlank, IsNumbered, IsPlanOf, IsFirstPlace, IsFaultOf, ScanLaw}
 use Rattle.image_model.proofs.BelowLemmas.{any_at, any_found, all_from, all_at, all_or_some}
@@ -211,8 +212,8 @@ first_of_is grid number k low is =
     )
 
 -- Four places, by their number.
-place_by : (f : ℕ → ℕ × ℕ) (number : ℕ) → number < 4 → slice_index_or (map f commit_numbers) number (0, 0) ≡ f number
-place_by f = four_numbers (λ number. slice_index_or (map f commit_numbers) number (0, 0) ≡ f number) refl refl refl refl
+place_by : (f : ℕ → SectorPlace) (number : ℕ) → number < 4 → slice_index_or (map f commit_numbers) number (sector_place 0 0) ≡ f number
+place_by f = four_numbers (λ number. slice_index_or (map f commit_numbers) number (sector_place 0 0) ≡ f number) refl refl refl refl
 
 -- A grid with no plan has a fault that says why.
 pub fault_says : (grid : Grid) → IsGrid grid → plan_of grid.sections grid.sectors (numbers_of grid) ≡ None → IsFaultOf grid (scan_fault_of grid)

@@ -2,7 +2,7 @@
 -- the kernel's documentation.
 use Rattle.std.proofs.Common.{◌≡◌, Ok, Err, refl}
 use Rattle.image_model.specs.Superblock.{Superblock}
-use Rattle.image_model.specs.Geometry.{Shape, entry_size, entries_per_sector, section_entries, section_sectors, tag_run_of, layout_of, section_at, journal_sectors, initial, sector_at, data_at, tag_offset, tag_at, region_of, regions, regions_for, bitmap_sectors_for, fitting_log2_region, geometry_of, best_provided, best_provided_of}
+use Rattle.image_model.specs.Geometry.{Shape, entry_size, entries_per_sector, section_entries, section_sectors, tag_run_of, layout_of, section_at, journal_sectors, initial, sector_at, data_at, tag_offset, tag_at, region_of, regions, regions_for, bitmap_sectors_for, fitting_log2_region, geometry_of, best_provided, best_provided_of, byte_place}
 use Rattle.image_model.specs.declared.geom_fault.GeomFault.TheVariants.{JournalTooLarge, DeviceTooLarge, TooSmall, BitmapTooLarge}
 use Rattle.image_model.proofs.WorkedImages.{small, kernel_straddling, kernel_large_blocks, kernel_oldest}
 
@@ -28,7 +28,7 @@ data_at-small : (data_at (layout_of small) 0 ≡ 104) × (data_at (layout_of sma
 unfolding data_at sector_at section_sectors section_entries entries_per_sector entry_size tag_run_of
 data_at-small = (refl, refl, refl)
 
-tag_at-small : (tag_at (layout_of small) 0 ≡ (96, 0)) × (tag_at (layout_of small) 9 ≡ (112, 32))
+tag_at-small : (tag_at (layout_of small) 0 ≡ byte_place 96 0) × (tag_at (layout_of small) 9 ≡ byte_place 112 32)
 unfolding tag_at tag_offset section_sectors section_entries entries_per_sector entry_size tag_run_of
 tag_at-small = (refl, refl)
 
@@ -96,7 +96,7 @@ data_at-straddling :
     × (section_entries (layout_of kernel_straddling).shape ≡ 96) × (journal_sectors (layout_of kernel_straddling) ≡ 104)
     × (initial (layout_of kernel_straddling) ≡ 112) × (best_provided_of kernel_straddling 512 ≡ Ok 320)
     × (geometry_of kernel_straddling 512 ≡ Ok (layout_of kernel_straddling))
-    × (data_at (layout_of kernel_straddling) 25 ≡ 145) × (tag_at (layout_of kernel_straddling) 25 ≡ (112, 500))
+    × (data_at (layout_of kernel_straddling) 25 ≡ 145) × (tag_at (layout_of kernel_straddling) 25 ≡ byte_place 112 500)
 unfolding best_provided_of best_provided geometry_of data_at sector_at tag_at tag_offset section_sectors section_entries entries_per_sector entry_size tag_run_of
 data_at-straddling = (refl, refl, refl, refl, refl, refl, refl, refl, refl)
 
@@ -108,7 +108,7 @@ data_at-large_blocks :
     (entry_size (layout_of large_blocks).shape ≡ 104) × (entries_per_sector (layout_of large_blocks).shape ≡ 4)
     × (section_entries (layout_of large_blocks).shape ≡ 32) × (section_sectors (layout_of large_blocks).shape ≡ 264)
     × (initial (layout_of large_blocks) ≡ 272) × (best_provided_of large_blocks 1024 ≡ Ok 376) × ((layout_of large_blocks).blocks ≡ 47)
-    × (data_at (layout_of large_blocks) 1 ≡ 296) × (tag_at (layout_of large_blocks) 1 ≡ (288, 0))
+    × (data_at (layout_of large_blocks) 1 ≡ 296) × (tag_at (layout_of large_blocks) 1 ≡ byte_place 288 0)
 unfolding large_blocks best_provided_of best_provided data_at sector_at tag_at tag_offset section_sectors section_entries entries_per_sector entry_size tag_run_of
 data_at-large_blocks = (refl, refl, refl, refl, refl, refl, refl, refl, refl)
 

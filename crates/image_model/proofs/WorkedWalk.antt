@@ -4,7 +4,7 @@ use Rattle.image_model.specs.Walk.{plan_of, sections_of}
 use Rattle.image_model.specs.declared.journal_plan.State.{State}
 use Rattle.image_model.specs.declared.journal_plan.State.TheVariants.{Rest, Mixed, Erasing, Blank}
 use Rattle.image_model.specs.declared.journal_plan.Plan.{Plan}
-use Rattle.image_model.specs.Scan.{SectorCell, walk_of_grid}
+use Rattle.image_model.specs.Scan.{SectorCell, walk_of_grid, sector_place}
 use Rattle.image_model.specs.declared.sector_cell.Cell.TheVariants.{Number, Zero, Other}
 use Rattle.image_model.specs.declared.scan_fault.ScanFault.{ScanFault}
 use Rattle.image_model.specs.declared.scan_fault.ScanFault.TheVariants.{NoNumber, FourNumbers}
@@ -109,7 +109,7 @@ scan-second_part_cut = refl
 -- ---- a journal that is refused
 
 -- All four numbers, with the first place of each.
-scan-four_numbers : scan_numbers 2 88 ((30, Number 2) ∷ (90, Number 0) ∷ (10, Number 3) ∷ (46, Number 1) ∷ []) ≡ Err (FourNumbers ((0, 30) ∷ (1, 42) ∷ (0, 0) ∷ (1, 32) ∷ []))
+scan-four_numbers : scan_numbers 2 88 ((30, Number 2) ∷ (90, Number 0) ∷ (10, Number 3) ∷ (46, Number 1) ∷ []) ≡ Err (FourNumbers (sector_place 0 30 ∷ sector_place 1 42 ∷ sector_place 0 0 ∷ sector_place 1 32 ∷ []))
 unfolding walk_of_grid plan_of
 scan-four_numbers = refl
 

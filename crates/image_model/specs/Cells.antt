@@ -3,6 +3,7 @@
 use Rattle.std.specs.Prelude.{ℕ, ◌*◌, ◌==◌, if◌then◌else◌, Option, Some, None, option_map, unwrap_or, find, Result, Ok, Err, List, [], reverse, map, flat_map, filter_map}
 use Rattle.std.specs.List.{range_with_len}
 use Rattle.disk_model.specs.Disk.{Image}
+use Rattle.image_model.specs.declared.entry_place.EntryPlace.{EntryPlace}
 use Rattle.image_model.specs.declared.flags.TheConstants.{DIRTY_BITMAP, FIXED_HMAC}
 use Rattle.image_model.specs.Bitmap.{awaits}
 use Rattle.image_model.specs.Geometry.{Geometry, section_at, section_sectors, section_entries, data_at, tag_at}
@@ -30,7 +31,7 @@ salt_of s = if has_flag FIXED_HMAC s.flags then Some s.salt else None
 unfoldable pub placed_cells_of : Geometry → Image → ℕ → Cell
 placed_cells_of g image b = record {
   bytes = bytes_at image (data_at g b) g.shape.spb;
-  tag = piece (bytes_at image (tag_at g b).0 2) (tag_at g b).1 g.shape.tag_size;
+  tag = piece (bytes_at image (tag_at g b).sector 2) (tag_at g b).byte g.shape.tag_size;
 }
 
 -- ---- the replayed entries
@@ -39,14 +40,21 @@ placed_cells_of g image b = record {
 abbrev pub section_bytes : Geometry → Image → ℕ → List ℕ
 section_bytes g image section = bytes_at image (section_at g section) (section_sectors g.shape)
 
--- The entry at a place, a section and a number in it, and none where it is unused.
-abbrev pub entry_of : Geometry → Image → ℕ × ℕ → Option Entry
-entry_of g image place = entry_at g.shape (section_bytes g image place.0) place.1
+-- The entry at a place, and none where it is unused.
+abbrev pub entry_of : Geometry → Image → EntryPlace → Option Entry
+entry_of g image place = entry_at g.shape (section_bytes g image place.section) place.entry
 
--- The places of the entries of some sections, in order.
-abbrev pub entry_places : Geometry → List ℕ → List (ℕ × ℕ)
-entry_places g sections =
-    flat_map (λ section. map (λ n. (section, n)) (range_with_len 0 (section_entries g.shape))) sections
+-- An entry of the journal, by its section and its number in that.
+abbrev pub entry_place : (section entry : ℕ) → EntryPlace
+entry_place section entry = record { section = section; entry = entry }
+
+-- The places of the entries of a section, in order,
+abbrev pub places_in : (entries section : ℕ) → List EntryPlace
+places_in entries section = map (entry_place section) (range_with_len 0 entries)
+
+-- and of some.
+abbrev pub entry_places : Geometry → List ℕ → List EntryPlace
+entry_places g sections = flat_map (places_in (section_entries g.shape)) sections
 
 -- The sections that count, and none where the journal is refused.
 abbrev pub counted_sections : Result Plan ScanFault → List ℕ

@@ -1,6 +1,7 @@
 -- Where the journal, the tags and the data lie on a disk, and which blocks of the device make a region.
 -- Source: Linux, Documentation/admin-guide/device-mapper/dm-integrity.rst, and drivers/md/dm-integrity.c, by function.
 use Rattle.std.specs.Prelude.{◌≡◌, ◌≤◌, ℕ, zero, suc, ◌+◌, ◌-◌, ◌*◌, ◌/◌, ◌%◌, ◌^◌, Bool, ◌&&◌, ◌==◌, nat_le, nat_lt, if◌then◌else◌, List, [], ◌∷◌, ◌++◌, Result}
+use Rattle.image_model.specs.declared.byte_place.BytePlace.{BytePlace}
 use Rattle.image_model.specs.declared.geom_fault.GeomFault.{GeomFault}
 use Rattle.image_model.specs.declared.geom_fault.GeomFault.TheVariants.{DeviceTooLarge, JournalTooLarge, TooSmall, BitmapTooLarge}
 use Rattle.image_model.specs.declared.flags.TheConstants.{DIRTY_BITMAP, FIXED_PADDING}
@@ -94,9 +95,13 @@ data_at g b = sector_at g (b * g.shape.spb)
 unfoldable pub tag_offset : Geometry → ℕ → ℕ
 tag_offset g b = b * g.shape.spb % g.interleave / g.shape.spb * g.shape.tag_size
 
--- The sector of the disk where the tag of block b begins, and the byte in it. Source: get_metadata_sector_and_offset.
-unfoldable pub tag_at : Geometry → ℕ → ℕ × ℕ
-tag_at g b = (area_at g (b * g.shape.spb / g.interleave) + tag_offset g b / 512, tag_offset g b % 512)
+-- A byte of the disk, by its sector and its number in that.
+abbrev pub byte_place : (sector byte : ℕ) → BytePlace
+byte_place sector byte = record { sector = sector; byte = byte }
+
+-- The byte of the disk where the tag of block b begins. Source: get_metadata_sector_and_offset.
+unfoldable pub tag_at : Geometry → ℕ → BytePlace
+tag_at g b = byte_place (area_at g (b * g.shape.spb / g.interleave) + tag_offset g b / 512) (tag_offset g b % 512)
 
 -- The region of block b.
 abbrev pub region_of : Geometry → ℕ → ℕ

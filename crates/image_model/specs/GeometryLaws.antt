@@ -34,7 +34,7 @@ IsPart g (DataOf b) = b < g.blocks
 abbrev pub first_byte : Geometry → Part → ℕ
 first_byte g Head = 0
 first_byte g (Section i) = 512 * section_at g i
-first_byte g (TagOf b) = 512 * (tag_at g b).0 + (tag_at g b).1
+first_byte g (TagOf b) = 512 * (tag_at g b).sector + (tag_at g b).byte
 first_byte g (DataOf b) = 512 * data_at g b
 
 -- The byte behind its last one.

@@ -5,6 +5,7 @@ use Rattle.std.specs.List.{AllByRecursion}
 use Rattle.std.specs.Option.{option_or}
 use Rattle.std.specs.Result.{result_err}
 use Rattle.disk_model.specs.Disk.{Image}
+use Rattle.image_model.specs.declared.entry_place.EntryPlace.{EntryPlace}
 use Rattle.image_model.specs.declared.flags.TheConstants.{DIRTY_BITMAP}
 use Rattle.image_model.specs.Cells.{salt_of, block_tag, entry_of, entry_places, counted_sections, counted_entries, replayed_entries}
 use Rattle.image_model.specs.Geometry.{Geometry, geometry_of}
@@ -49,12 +50,12 @@ pub data JournalFault : Type 0 where
   JournalTag : (section entry : ℕ) (stored computed : List ℕ) → JournalFault
 
 -- Why the entry at a place is refused, if it is.
-unfoldable pub entry_fault : Option (List ℕ) → Option (List ℕ) → Geometry → ℕ × ℕ → Entry
+unfoldable pub entry_fault : Option (List ℕ) → Option (List ℕ) → Geometry → EntryPlace → Entry
     → Option JournalFault
 entry_fault key salt g place entry =
     let computed = block_tag key salt g entry.sector entry.bytes in
-    if not (is_block_start g entry.sector) then Some (JournalBlock place.0 place.1 entry.sector) else
-    if bytes_eq entry.tag computed then None else Some (JournalTag place.0 place.1 entry.tag computed)
+    if not (is_block_start g entry.sector) then Some (JournalBlock place.section place.entry entry.sector) else
+    if bytes_eq entry.tag computed then None else Some (JournalTag place.section place.entry entry.tag computed)
 
 -- The faults of a walk's used entries, in its order.
 abbrev pub entry_faults : Option (List ℕ) → Option (List ℕ) → Geometry → Image → List JournalFault

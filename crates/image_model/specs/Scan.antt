@@ -3,6 +3,7 @@
 use Rattle.std.specs.Prelude.{◌≡◌, ℕ, ◌+◌, ◌*◌, ◌/◌, ◌%◌, ◌<◌, ◌≤◌, nat_lt, Bool, true, false, not, ◌&&◌, ◌||◌, if◌then◌else◌, Option, Some, None, is_none, ok_or, option_map, find, Result, List, [], ◌∷◌, length, map, slice_index_or}
 use Rattle.std.specs.List.{position_or_len}
 use Rattle.std.specs.Option.{option_or}
+use Rattle.image_model.specs.declared.sector_place.SectorPlace.{SectorPlace}
 use Rattle.image_model.specs.declared.scan_fault.ScanFault.{ScanFault}
 use Rattle.image_model.specs.declared.scan_fault.ScanFault.TheVariants.{NoNumber, FourNumbers}
 use Rattle.image_model.specs.declared.sector_cell.Cell.{Cell}
@@ -83,11 +84,15 @@ blank_number grid =
 abbrev pub blank_plan : ℕ → Plan
 blank_plan number = record { state = Blank number; walk = (0, 0) ∷ (0, 0) ∷ [] }
 
--- The section of the first sector that passes, and the sector in it.
-abbrev pub first_place : (SectorCell → Bool) → Grid → ℕ × ℕ
+-- A sector of the journal, by its section and its number in that.
+abbrev pub sector_place : (section sector : ℕ) → SectorPlace
+sector_place section sector = record { section = section; sector = sector }
+
+-- The place of the first sector that passes.
+abbrev pub first_place : (SectorCell → Bool) → Grid → SectorPlace
 first_place test grid =
     let k = position_or_len test grid.cells in
-    (k / grid.sectors, k % grid.sectors)
+    sector_place (k / grid.sectors) (k % grid.sectors)
 
 -- Why a journal that is not blank has no plan.
 abbrev pub scan_fault_of : Grid → ScanFault

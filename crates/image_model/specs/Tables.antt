@@ -3,10 +3,11 @@
 -- Own: as the walk.
 use Rattle.std.specs.Prelude.{◌≡◌, ◌≢◌, ℕ, ◌+◌, ◌*◌, ◌-◌, ◌<◌, ◌≤◌, min, Bool, true, false, Option, Some, None, Ok, IfOk, IfErr, List, [], ◌∷◌, ◌++◌, map, length, slice_index_or}
 use Rattle.std.specs.List.{range_with_len}
+use Rattle.image_model.specs.declared.sector_place.SectorPlace.{SectorPlace}
 use Rattle.image_model.specs.Walk.{Numbers, occurs, later, newest, sections_of, ring}
 use Rattle.image_model.specs.declared.journal_plan.State.{State}
 use Rattle.image_model.specs.declared.journal_plan.State.TheVariants.{Rest, Mixed, Erasing, Blank}
-use Rattle.image_model.specs.Scan.{Grid, IsGrid, cell_at, number_at, found_in, numbers_of, blank_plan, walk_of_grid}
+use Rattle.image_model.specs.Scan.{Grid, IsGrid, cell_at, number_at, found_in, numbers_of, blank_plan, walk_of_grid, sector_place}
 use Rattle.image_model.specs.declared.sector_cell.Cell.TheVariants.{Zero}
 use Rattle.image_model.specs.declared.scan_fault.ScanFault.{ScanFault}
 use Rattle.image_model.specs.declared.scan_fault.ScanFault.TheVariants.{NoNumber, FourNumbers}
@@ -83,20 +84,20 @@ IsPlanOf grid walk (Erasing number) =
 IsPlanOf grid walk (Blank number) = IsBlank grid number × (walk ≡ [])
 
 -- The place is the first with this number, or without any.
-abbrev pub IsFirstPlace : Grid → Option ℕ → ℕ × ℕ → Type 0
+abbrev pub IsFirstPlace : Grid → Option ℕ → SectorPlace → Type 0
 IsFirstPlace grid number place =
-    let k = place.0 * grid.sectors + place.1 in
-    (place.0 < grid.sections) × (place.1 < grid.sectors) × (number_at grid k ≡ number)
+    let k = place.section * grid.sectors + place.sector in
+    (place.section < grid.sections) × (place.sector < grid.sectors) × (number_at grid k ≡ number)
     × ((before : ℕ) → before < k → number_at grid before ≢ number)
 
 -- The first place without a number, and what is found there, or the first places of all four numbers.
 abbrev pub IsFaultOf : Grid → ScanFault → Type 0
 IsFaultOf grid (NoNumber section sector found) =
-    IsFirstPlace grid None (section, sector)
+    IsFirstPlace grid None (sector_place section sector)
     × (found ≡ found_in (cell_at grid (section * grid.sectors + sector)))
 IsFaultOf grid (FourNumbers places) =
     IsNumbered grid × (length places ≡ 4)
-    × ((number : ℕ) → number < 4 → IsFirstPlace grid (Some number) (slice_index_or places number (0, 0)))
+    × ((number : ℕ) → number < 4 → IsFirstPlace grid (Some number) (slice_index_or places number (sector_place 0 0)))
 
 -- The scan follows the rules: each plan and each fault says what holds of the journal, and a blank
 -- journal is seen as one.

@@ -3,6 +3,8 @@
 //! `specs/Superblock.antt` is the file to read first; `docs/FORMAT.md` leads through the others.
 #![tactic(auto)]
 
+mod byte_place;
+mod entry_place;
 mod flags;
 mod geom_fault;
 mod geometry_laws;
@@ -11,12 +13,15 @@ mod judged;
 mod new_image;
 mod scan_fault;
 mod sector_cell;
+mod sector_place;
 mod sizes;
 mod super_fields;
 mod superblock_laws;
 mod walk_laws;
 
+pub use byte_place::BytePlace;
 pub use disk_model::SECTOR_SIZE;
+pub use entry_place::EntryPlace;
 pub use flags::{
     DIRTY_BITMAP, FIXED_HMAC, FIXED_PADDING, HAVE_JOURNAL_MAC, INLINE, KNOWN_FLAGS, RECALCULATING,
 };
@@ -29,6 +34,7 @@ pub use judged::What;
 pub use new_image::{ImageMode, Padding, Wipe};
 pub use scan_fault::ScanFault;
 pub use sector_cell::Cell;
+pub use sector_place::SectorPlace;
 pub use sizes::{
     COMMIT_NUMBERS, GROUP_BITS, HIGH_HALF, ID_FROM, ID_SIZE, LARGEST_BLOCK, LEAST_LOG2_INTERLEAVE,
     LONGEST_TAG, META_SECTORS, MOST_JOURNAL_SECTORS, MOST_LOG2_INTERLEAVE, MOST_LOG2_SPB,

@@ -1,5 +1,6 @@
 //! Why a journal has no plan.
 
+use crate::SectorPlace;
 use thiserror::Error;
 
 /// Why a journal has no plan. The first that holds is told.
@@ -12,9 +13,9 @@ pub enum ScanFault {
         sector: u64,
         found: u64,
     },
-    /// All four numbers stand: `places` has the section and the sector where each first does.
+    /// All four numbers stand: `places` has where each first does.
     #[error("all four commit numbers")]
     FourNumbers {
-        places: [(u64, u64); 4],
+        places: [SectorPlace; 4],
     },
 }

@@ -12,7 +12,7 @@ use Rattle.image_model.specs.Geometry.{Geometry, IsGeometry, data_at}
 use Rattle.image_model.specs.Sectors.{zero_bytes}
 use Rattle.buffer_cache.proofs.CachedLemmas.{changed_now}
 use Rattle.direct_laws.specs.CallLaws.{AddsTags, GivesTags, KeepsOthersNow}
-use Rattle.image_formatting.specs.Blocks.{zero_tag}
+use Rattle.formatting_model.specs.Blocks.{zero_tag}
 use Rattle.image_model.proofs.GeometryLemmas.{data_at-inside}
 use Rattle.image_model.proofs.TagLemmas.{length-tag_of}
 use Rattle.place_model.proofs.TagsLemmas.{order, tag_byte-no_data}

@@ -9,7 +9,7 @@ use Rattle.disk_model.proofs.DiskLemmas.{AddsSome-adds, OnlyAdds-wider, last_ima
 use Rattle.disk_model.proofs.MomentsLemmas.{EachMoment-weaker, FromStart-weaker}
 use Rattle.buffer_cache.proofs.CachedLemmas.{changed_now}
 use Rattle.direct_laws.specs.CallLaws.{AddsTags, GivesTags, KeepsOthersNow}
-use Rattle.image_formatting.proofs.TaggingLemmas.{slice_index-sector_in}
+use Rattle.formatting_model.proofs.TaggingLemmas.{slice_index-sector_in}
 use Rattle.image_model.specs.Cells.{Cell, placed_cells_of}
 use Rattle.image_model.specs.Geometry.{Geometry, IsGeometry, area_at, quotient_up, tag_at}
 use Rattle.image_model.proofs.GeometryLemmas.{data_at-inside, placed, tag_at-inside, tags_in_order}
@@ -23,11 +23,11 @@ use Rattle.image_resizing.specs.Filled.{IsTagRow, tag_byte}
 -- ---- bytes of the disk
 
 -- Byte i of the tag of a block.
-byte_is : (g : Geometry) (b i : ℕ) → 512 * (tag_byte_at g b i).0 + (tag_byte_at g b i).1 ≡ tag_byte g b + i
+byte_is : (g : Geometry) (b i : ℕ) → 512 * (tag_byte_at g b i).sector + (tag_byte_at g b i).byte ≡ tag_byte g b + i
 unfolding tag_byte_at
 byte_is g b i = omega arith
 
-byte_low : (g : Geometry) (b i : ℕ) → (tag_byte_at g b i).1 < 512
+byte_low : (g : Geometry) (b i : ℕ) → (tag_byte_at g b i).byte < 512
 unfolding tag_byte_at
 byte_low g b i = omega arith
 
@@ -73,7 +73,7 @@ area_row g sectors first count is some inside low = record {
 -- ---- a run over an image
 
 module _ (g : Geometry) (sectors : ℕ) (is : IsGeometry g sectors) (first count at from : ℕ) (row : IsTagRow g first count)
-    (at_is : at ≡ (tag_at g first).0) (from_is : from ≡ (tag_at g first).1) (run : List ℕ) (tag : ℕ → List ℕ)
+    (at_is : at ≡ (tag_at g first).sector) (from_is : from ≡ (tag_at g first).byte) (run : List ℕ) (tag : ℕ → List ℕ)
     (long : length run ≡ 512 * quotient_up (from + count * g.shape.tag_size) 512) where
   -- The run ends where the last tag does,
   pub run_inside : at + length run / 512 ≤ sectors
@@ -133,21 +133,21 @@ module _ (g : Geometry) (sectors : ℕ) (is : IsGeometry g sectors) (first count
         ∙ slice_index-sector_in run p
 
     -- A byte of a tag that comes,
-    come_byte : (n i : ℕ) → n < count → i < g.shape.tag_size → slice_index (then_ (tag_byte_at g (first + n) i).0) (tag_byte_at g (first + n) i).1 ≡ slice_index (tag n) i
+    come_byte : (n i : ℕ) → n < count → i < g.shape.tag_size → slice_index (then_ (tag_byte_at g (first + n) i).sector) (tag_byte_at g (first + n) i).byte ≡ slice_index (tag n) i
     come_byte n i n_low i_low =
         let here = byte_is g (first + n) i in
         let each = row.each n n_low in
         let fits = next_fits n count g.shape.tag_size n_low in
-        run_byte (tag_byte_at g (first + n) i).0 (tag_byte_at g (first + n) i).1 (from + (n * g.shape.tag_size + i)) (byte_low g (first + n) i)
+        run_byte (tag_byte_at g (first + n) i).sector (tag_byte_at g (first + n) i).byte (from + (n * g.shape.tag_size + i)) (byte_low g (first + n) i)
         (omega (arith, here, each, at_is, from_is)) (omega (arith, fits, i_low, long))
         ∙ holds n i n_low i_low
 
     -- and of any other.
     other_byte : (b i : ℕ) → b < g.blocks → (b < first) ⊎ (first + count ≤ b) → i < g.shape.tag_size
-        → slice_index (then_ (tag_byte_at g b i).0) (tag_byte_at g b i).1 ≡ slice_index (image (tag_byte_at g b i).0) (tag_byte_at g b i).1
+        → slice_index (then_ (tag_byte_at g b i).sector) (tag_byte_at g b i).byte ≡ slice_index (image (tag_byte_at g b i).sector) (tag_byte_at g b i).byte
     other_byte b i b_low other i_low =
-        let s = (tag_byte_at g b i).0 in
-        let j = (tag_byte_at g b i).1 in
+        let s = (tag_byte_at g b i).sector in
+        let j = (tag_byte_at g b i).byte in
         let j_low = byte_low g b i in
         elim (cases_lt s at) [
           | inl before ↦ ap (λ (x : List ℕ). slice_index x j) (outside s (λ above below. omega (arith, before, above)))
@@ -203,7 +203,7 @@ module _ (g : Geometry) (sectors : ℕ) (is : IsGeometry g sectors) (first count
           byte_low = tags.byte_low;
           is = tags.is;
           each = λ b i b_low i_low here. inr
-              (ap (λ (y : List ℕ). slice_index y (tag_byte_at g b i).1) (same ∙ ap then_ here)
+              (ap (λ (y : List ℕ). slice_index y (tag_byte_at g b i).byte) (same ∙ ap then_ here)
               ∙ sym (placed_tag-byte g sectors is then_ then_whole b b_low (placed_cells_of g then_ b) i i_low));
         }
 
@@ -217,7 +217,7 @@ abbrev pub tags_read : Geometry → Content → ℕ → List ℕ
 tags_read g c = tags_in g (last_image c)
 
 module _ (g : Geometry) (sectors : ℕ) (is : IsGeometry g sectors) (first count at from : ℕ) (row : IsTagRow g first count)
-    (at_is : at ≡ (tag_at g first).0) (from_is : from ≡ (tag_at g first).1) (run : List ℕ) (tag : ℕ → List ℕ)
+    (at_is : at ≡ (tag_at g first).sector) (from_is : from ≡ (tag_at g first).byte) (run : List ℕ) (tag : ℕ → List ℕ)
     (long : length run ≡ 512 * quotient_up (from + count * g.shape.tag_size) 512)
     (holds : (n i : ℕ) → n < count → i < g.shape.tag_size → slice_index run (from + (n * g.shape.tag_size + i)) ≡ slice_index (tag n) i)
     (sizes : (n : ℕ) → n < count → length (tag n) ≡ g.shape.tag_size) (a : List Content)

@@ -5,10 +5,10 @@ use Rattle.std.proofs.lemmas.Nat.{div-add-mod', mod_below}
 use Rattle.disk_model.specs.Disk.{AddsSome, Content, Image, IsRun, last_image, with_run}
 use Rattle.disk_model.specs.Moments.{EachSince, HasNow, IsChangedBy, content_now}
 use Rattle.hmac_tag.specs.TagMaker.{TagRule}
-use Rattle.image_formatting.specs.Blocks.{byte_of_tags, zero_tag}
+use Rattle.formatting_model.specs.Blocks.{byte_of_tags, zero_tag}
 use Rattle.image_formatting.specs.Tagging.{LiesOn}
-use Rattle.image_formatting.proofs.TaggingLemmas.{byte_of_tag, sectors_are}
-use Rattle.image_formatting.proofs.WipingLemmas.{area_is, of_area_some}
+use Rattle.formatting_model.proofs.TaggingLemmas.{byte_of_tag, sectors_are}
+use Rattle.formatting_model.proofs.WipingLemmas.{area_is, of_area_some}
 use Rattle.image_model.specs.Geometry.{Geometry, quotient_up, tag_at}
 use Rattle.image_model.proofs.GeometryLemmas.{tag_at-inside}
 use Rattle.image_model.proofs.Regions.{blocks-low}
@@ -25,7 +25,7 @@ use Rattle.image_resizing.proofs.TagRunLemmas.{area_row, behind_come, behind_oth
 
 module _ (sectors : ℕ) (plan : Plan) (is : IsPlan sectors plan) (done count first at from spb size : ℕ) (first_is : first ≡ plan.present.geometry.blocks + done)
     (row : IsTagRow plan.grown.geometry first count)
-    (at_is : at ≡ (tag_at plan.grown.geometry first).0) (from_is : from ≡ (tag_at plan.grown.geometry first).1)
+    (at_is : at ≡ (tag_at plan.grown.geometry first).sector) (from_is : from ≡ (tag_at plan.grown.geometry first).byte)
     (spb_is : spb ≡ plan.present.geometry.shape.spb) (size_is : size ≡ plan.grown.geometry.shape.tag_size) (run : List ℕ)
     (long : length run ≡ 512 * quotient_up (from + count * size) 512) where
   long_is : length run ≡ 512 * quotient_up (from + count * plan.grown.geometry.shape.tag_size) 512
@@ -105,7 +105,7 @@ module _ (sectors : ℕ) (plan : Plan) (is : IsPlan sectors plan) (done count fi
 
 module _ (sectors : ℕ) (plan : Plan) (is : IsPlan sectors plan) (done first of_area from size tags room count : ℕ) (first_is : first ≡ plan.present.geometry.blocks + done)
     (done_low : done < added plan) (area : of_area ≡ 2 ^ (plan.grown.fields.log2_interleave - plan.grown.fields.log2_spb))
-    (from_is : from ≡ (tag_at plan.grown.geometry first).1) (size_is : size ≡ plan.grown.geometry.shape.tag_size) (tags_are : tags ≡ 512 * 512)
+    (from_is : from ≡ (tag_at plan.grown.geometry first).byte) (size_is : size ≡ plan.grown.geometry.shape.tag_size) (tags_are : tags ≡ 512 * 512)
     (room_is : room ≡ (tags - from) / size) where
   pub first_low : first < plan.grown.geometry.blocks
   first_low = omega (arith, first_is, done_low)
@@ -155,8 +155,8 @@ module _ (sectors : ℕ) (plan : Plan) (is : IsPlan sectors plan) (done first of
 
 module _ (sectors : ℕ) (plan : Plan) (is : IsPlan sectors plan) (done count first at from size tags multiple : ℕ) (first_is : first ≡ plan.present.geometry.blocks + done)
     (row_is : IsTagRow plan.grown.geometry (plan.present.geometry.blocks + done) count)
-    (at_is : at ≡ (tag_at plan.grown.geometry first).0) (from_is : from ≡ (tag_at plan.grown.geometry first).1) (size_is : size ≡ plan.grown.geometry.shape.tag_size)
-    (tags_are : tags ≡ 512 * 512) (fits : (tag_at plan.grown.geometry (plan.present.geometry.blocks + done)).1 + count * plan.grown.geometry.shape.tag_size ≤ tags) where
+    (at_is : at ≡ (tag_at plan.grown.geometry first).sector) (from_is : from ≡ (tag_at plan.grown.geometry first).byte) (size_is : size ≡ plan.grown.geometry.shape.tag_size)
+    (tags_are : tags ≡ 512 * 512) (fits : (tag_at plan.grown.geometry (plan.present.geometry.blocks + done)).byte + count * plan.grown.geometry.shape.tag_size ≤ tags) where
   pub run_row : IsTagRow plan.grown.geometry first count
   run_row = subst (λ (n : ℕ). IsTagRow plan.grown.geometry n count) (sym first_is) row_is
 
@@ -167,7 +167,7 @@ module _ (sectors : ℕ) (plan : Plan) (is : IsPlan sectors plan) (done count fi
 
   pub run_end : from + count * size ≤ tags
   run_end =
-      let begins = from_is ∙ ap (λ (n : ℕ). (tag_at plan.grown.geometry n).1) first_is in
+      let begins = from_is ∙ ap (λ (n : ℕ). (tag_at plan.grown.geometry n).byte) first_is in
       let all = ap (λ (n : ℕ). count * n) size_is in
       omega (arith, begins, all, fits)
 

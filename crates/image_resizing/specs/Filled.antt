@@ -15,7 +15,7 @@ pub record IsRow (g : Geometry) (first count : ℕ) : Type 0 where
 
 -- The byte of the disk where the tag of a block begins.
 abbrev pub tag_byte : Geometry → ℕ → ℕ
-tag_byte g block = 512 * (tag_at g block).0 + (tag_at g block).1
+tag_byte g block = 512 * (tag_at g block).sector + (tag_at g block).byte
 
 -- The tags of these blocks lie one behind the other.
 pub record IsTagRow (g : Geometry) (first count : ℕ) : Type 0 where

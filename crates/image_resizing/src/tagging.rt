@@ -6,7 +6,7 @@ ghost use Rattle.std.specs.Prelude.{◌≡◌, ◌⊎◌, ◌≤◌, ◌<◌, �
 ghost use Rattle.commit_id.specs.Shape.{IsShape};
 ghost use Rattle.disk_model.specs.Causes.{HasCause};
 ghost use Rattle.disk_model.specs.Identity.{IsBound};
-ghost use Rattle.image_formatting.specs.Blocks.{byte_of_tags};
+ghost use Rattle.formatting_model.specs.Blocks.{byte_of_tags};
 ghost use Rattle.image_formatting.specs.Tagging.{LiesOn};
 ghost use Rattle.image_model.specs.Geometry.{quotient_up, tag_at};
 ghost use Rattle.image_model.specs.Sectors.{zero_bytes};
@@ -91,8 +91,8 @@ fn tag_some<D: Disk>(
     let geometry = &plan.grown.geometry;
     let first = plan.present.geometry.blocks() + done;
     let of_area = area_blocks(&plan.grown.fields);
-    let (_, from) = geometry.tag_at(first);
-    let room = (tags.len() as u64 - from) / geometry.shape().tag;
+    let begin = geometry.tag_at(first);
+    let room = (tags.len() as u64 - begin.byte) / geometry.shape().tag;
     let count = room
         .min(of_area - first % of_area)
         .min(geometry.blocks() - first);
@@ -128,7 +128,7 @@ fn write_tags<D: Disk>(
     requires zeros { zeros.now ≡ zeros_at_once }
     requires row { IsTagRow plan.now.grown.geometry (plan.now.present.geometry.blocks + done) count }
     requires fits { let g = plan.now.grown.geometry in
-        (tag_at g (plan.now.present.geometry.blocks + done)).1 + count * g.shape.tag_size ≤ length tags.old }
+        (tag_at g (plan.now.present.geometry.blocks + done)).byte + count * g.shape.tag_size ≤ length tags.old }
     requires whole { length tags.old ≡ tags_at_once }
 
     ensures tagged { OnOk result ((written : ℕ) → FillsBlocks (D.identity disk.old).sectors plan.now
@@ -144,14 +144,14 @@ fn write_tags<D: Disk>(
 {
     let shape = plan.grown.geometry.shape();
     let first = plan.present.geometry.blocks() + done;
-    let (at, from) = plan.grown.geometry.tag_at(first);
-    let from = from as usize;
+    let at = plan.grown.geometry.tag_at(first);
+    let from = at.byte as usize;
     let end = from + (count * shape.tag) as usize;
     let run = &mut tags[..end.next_multiple_of(SECTOR_SIZE)];
-    read_around(disk, at, from, end, run)?;
+    read_around(disk, at.sector, from, end, run)?;
     let block = &zeros[..SECTOR_SIZE * shape.spb as usize];
     put_tags_from(&plan.maker, shape, block, first, count, from, run);
-    disk.write_run(at, run)
+    disk.write_run(at.sector, run)
 }
 
 /// Reads the first and the last of whole sectors from sector `at` on, as far as they have a byte that is none of those

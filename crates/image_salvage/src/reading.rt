@@ -70,13 +70,13 @@ pub(crate) fn read_block<D: Disk>(
     ensures disk { LeavesDisk (D.identity disk.old) (D.identity disk.new) (D.moments disk.old) (D.moments disk.new) }
 {
     let geometry = &format.geometry;
-    let (tag_at, from) = geometry.tag_at(block);
+    let tag_at = geometry.tag_at(block);
     let at = geometry.data_at(block);
     let shape = geometry.shape();
-    tags.show(disk, tag_at, TAG_SECTORS)?;
+    tags.show(disk, tag_at.sector, TAG_SECTORS)?;
     blocks.show(disk, at, shape.spb)?;
-    let from = from as usize;
-    let stored = &tags.run(tag_at, TAG_SECTORS)[from..from + shape.tag as usize];
+    let from = tag_at.byte as usize;
+    let stored = &tags.run(tag_at.sector, TAG_SECTORS)[from..from + shape.tag as usize];
     let placed = blocks.run(at, shape.spb);
     bytes.copy_from_slice(placed);
     Ok(judge(geometry, maker, block, stored, placed))

@@ -7,13 +7,13 @@ use Rattle.run_model.specs.declared.key_refusal.KeyRefusal.{KeyRefusal}
 use Rattle.run_model.specs.declared.key_refusal.KeyRefusal.TheVariants.{Empty, Long}
 use Rattle.command_words.specs.declared.values.HashChoice.{HashChoice}
 use Rattle.command_words.specs.declared.values.HashChoice.TheVariants.{HmacSha256, Sha256}
-use Rattle.integrity_tool.specs.declared.asked.Asked.{Asked}
-use Rattle.integrity_tool.specs.Words.{asked_of, key_file_of, key_file_of_asked}
+use Rattle.command_task.specs.declared.asked.Asked.{Asked}
+use Rattle.command_task.specs.Words.{asked_of, key_file_of, key_file_of_asked}
 use Rattle.command_ending.specs.Ended.{ending_of}
 use Rattle.command_ending.specs.declared.ended.Ended.{Ended}
 use Rattle.command_ending.specs.declared.ended.Ended.TheVariants as Endings
 use Rattle.integrity_tool.specs.KeyFile.{HasFile, HasKeyRead, ReadsKey}
-use Rattle.integrity_tool.specs.Outset.{key_by, key_in, keyed}
+use Rattle.command_task.specs.Outset.{key_by, key_in, keyed}
 use Rattle.run_model.specs.declared.outer.Outer.TheVariants as outers
 use Rattle.command_ending.specs.declared.refusal.Refusal.TheVariants as refusals
 
@@ -58,14 +58,6 @@ key_told choice file bytes told is in_ = ap (λ (x : HashChoice). key_by (key_fi
 
 pub at_most : (n : ℕ) → ¬ (4096 < n) → n ≤ 4096
 at_most n not_more = omega (arith, not_more)
-
-abbrev is_ok_type : {T E : Type 0} → Result T E → Type 0
-is_ok_type (Ok x) = Unit {0}
-is_ok_type (Err e) = ⊥
-
--- What is Ok is no error.
-pub ok_no_err : {T E : Type 0} (r : Result T E) (x : T) (e : E) → r ≡ Ok x → r ≡ Err e → ⊥
-ok_no_err r x e is_ok is_err = subst is_ok_type (sym is_ok ∙ is_err) tt
 
 -- ---- what is read
 

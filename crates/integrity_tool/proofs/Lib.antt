@@ -1,27 +1,5 @@
-pub mod ClosingLemmas
-pub mod PositionLemmas
-pub mod ClosedLemmas
 pub mod KeyLemmas
-pub mod LoopLemmas
-pub mod HeadLemmas
-pub mod JudgedLemmas
-pub mod OpeningLemmas
-pub mod ReopeningLemmas
-pub mod StoredTagsLemmas
-pub mod RunningLemmas
-pub mod ServingLemmas
-pub mod OutsetLemmas
-pub mod UnbegunLemmas
 pub mod StartLemmas
-pub mod TakenLemmas
 pub mod TopLemmas
 pub mod WorldLemmas
-pub mod TextsLemmas
-pub mod CheckingLemmas
-pub mod SalvagingLemmas
-pub mod ExercisingLemmas
-pub mod MakingLemmas
-pub mod ResizingLemmas
-pub mod PrintingLemmas
 pub mod TaskLemmas
-mod Worked

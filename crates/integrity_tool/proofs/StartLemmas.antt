@@ -10,22 +10,22 @@ use Rattle.run_model.specs.ServedRun.{EndsUnbegun}
 use Rattle.command_ending.specs.Ended.{ending_of}
 use Rattle.command_ending.specs.declared.ended.Ended.{Ended}
 use Rattle.command_ending.specs.declared.ended.Ended.TheVariants as Endings
-use Rattle.integrity_tool.specs.declared.asked.Asked.{Asked}
-use Rattle.integrity_tool.specs.Words.{asked_of, key_file_of, key_file_of_asked}
+use Rattle.command_task.specs.declared.asked.Asked.{Asked}
+use Rattle.command_task.specs.Words.{asked_of, key_file_of, key_file_of_asked}
 use Rattle.integrity_tool.specs.KeyFile.{HasFile, HasHash, IsKeyRefused, IsKeyed}
 use Rattle.integrity_tool.specs.Top.{Given, HasMomentsIn, IsGiven, IsLeftClosed, image_in, outset_in}
 use Rattle.integrity_tool.specs.World.{World}
 use Rattle.run_model.specs.CommandRun.{Outset, RefusedBy}
-use Rattle.integrity_tool.specs.declared.telling.Telling.{Telling}
-use Rattle.integrity_tool.specs.declared.telling.Telling.TheVariants.{Lines}
-use Rattle.integrity_tool.specs.Opening.{HasReadIn, HasRunIn, IsMomentOf}
-use Rattle.integrity_tool.specs.Closed.{IsClosedAt, IsClosedFor, IsClosedUnder}
-use Rattle.integrity_tool.specs.Order.{HasMomentsAt, IsInOrderAt, IsInOrderFor, IsInOrderUnder}
-use Rattle.integrity_tool.specs.Outset.{geometry_on, task_outset, keyed_outset, asked_outset}
+use Rattle.command_task.specs.declared.telling.Telling.{Telling}
+use Rattle.command_task.specs.declared.telling.Telling.TheVariants.{Lines}
+use Rattle.command_task.specs.Opening.{HasReadIn, HasRunIn, IsMomentOf}
+use Rattle.command_task.specs.Closed.{IsClosedAt, IsClosedFor, IsClosedUnder}
+use Rattle.command_task.specs.Order.{HasMomentsAt, IsInOrderAt, IsInOrderFor, IsInOrderUnder}
+use Rattle.command_task.specs.Outset.{geometry_on, task_outset, keyed_outset, asked_outset}
 use Rattle.run_model.specs.declared.outer.Outer.TheVariants as outers
 use Rattle.command_ending.specs.declared.refusal.Refusal.TheVariants as refusals
-use Rattle.integrity_tool.proofs.OutsetLemmas.{IsSound, sound_for}
-use Rattle.integrity_tool.proofs.UnbegunLemmas.{before_kept, kept_for, nothing_begun, refused_begun, untouched_kept}
+use Rattle.command_task.proofs.OutsetLemmas.{IsSound, sound_for}
+use Rattle.command_task.proofs.UnbegunLemmas.{before_kept, kept_for, nothing_begun, refused_begun, untouched_kept}
 
 -- ---- by what a command is given
 
@@ -89,6 +89,8 @@ module _ (given : Given) (words : List (List ℕ)) (world : World) (is : IsGiven
     stopped_at_key faults_before faults (Endings.Refused (refusals.Line number refusal)) refused = absurd refused
     stopped_at_key faults_before faults (Endings.Refused refusals.Length) refused = absurd refused
     stopped_at_key faults_before faults (Endings.Refused (refusals.Image fault)) refused = absurd refused
+    stopped_at_key faults_before faults (Endings.Refused (refusals.Second fault)) refused = absurd refused
+    stopped_at_key faults_before faults (Endings.Refused (refusals.Legs a_blocks a_size b_blocks b_size)) refused = absurd refused
     stopped_at_key faults_before faults (Endings.Failed outers.Disk) refused = absurd refused
     stopped_at_key faults_before faults (Endings.Failed outers.Key) refused = outside_first (Failed outers.Key) tt (image_in words world) refl
     stopped_at_key faults_before faults (Endings.Failed outers.Script) refused = absurd refused

@@ -4,16 +4,17 @@ use Rattle.disk_model.specs.Disk.{Content, last_image}
 use Rattle.command_ending.specs.declared.ended.Ended.{Ended}
 use Rattle.command_ending.specs.declared.ended.Ended.TheVariants as Endings
 use Rattle.run_model.specs.CommandRun.{Outset}
-use Rattle.integrity_tool.specs.declared.asked.Task.{Task}
-use Rattle.integrity_tool.specs.declared.telling.Telling.{Telling}
-use Rattle.integrity_tool.specs.declared.telling.Telling.TheVariants.{Lines}
-use Rattle.integrity_tool.specs.Opening.{EndsImage, HasReadIn, HasRunIn, HasRunOn}
-use Rattle.integrity_tool.specs.Order.{HasMomentsAt}
-use Rattle.integrity_tool.specs.Outset.{task_outset}
-use Rattle.integrity_tool.specs.Running.{HasEndCause, IsCounted, ending_by}
-use Rattle.integrity_tool.specs.Tasks.{EndsTask, ending_done, found_by}
-use Rattle.integrity_tool.proofs.OutsetLemmas.{IsFine}
-use Rattle.integrity_tool.proofs.UnbegunLemmas.{read_in_further, read_none, told_by_lines}
+use Rattle.command_task.specs.declared.asked.Task.{Task}
+use Rattle.command_task.specs.declared.telling.Telling.{Telling}
+use Rattle.command_task.specs.declared.telling.Telling.TheVariants.{Lines}
+use Rattle.command_task.specs.Opening.{EndsImage, HasReadIn, HasRunIn, HasRunOn}
+use Rattle.command_task.specs.Order.{HasMomentsAt}
+use Rattle.command_task.specs.Outset.{task_outset}
+use Rattle.command_task.specs.Running.{ending_by}
+use Rattle.script_lines.specs.Ends.{HasEndCause, IsCounted}
+use Rattle.command_image.specs.Tasks.{EndsTask, ending_done, found_by}
+use Rattle.command_task.proofs.OutsetLemmas.{IsFine}
+use Rattle.command_task.proofs.UnbegunLemmas.{read_in_further, read_none, told_by_lines}
 use Rattle.run_model.specs.Ending.{Ending}
 use Rattle.std.specs.Prelude.{Some}
 use Rattle.run_model.specs.declared.outer.Outer.{Outer}
@@ -30,6 +31,8 @@ ends_image (Endings.Refused (refusals.Key refusal)) ends = ends
 ends_image (Endings.Refused (refusals.Line number refusal)) ends = tt
 ends_image (Endings.Refused refusals.Length) ends = tt
 ends_image (Endings.Refused (refusals.Image fault)) ends = tt
+ends_image (Endings.Refused (refusals.Second fault)) ends = ends
+ends_image (Endings.Refused (refusals.Legs a_blocks a_size b_blocks b_size)) ends = ends
 ends_image (Endings.Failed outers.Disk) ends = tt
 ends_image (Endings.Failed outers.Key) ends = ends
 ends_image (Endings.Failed outers.Script) ends = tt

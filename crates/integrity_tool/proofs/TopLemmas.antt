@@ -1,14 +1,13 @@
 -- The last line of a command, its status, and what both tell.
-use Rattle.std.proofs.Common.{◌≡◌, ◌≢◌, ◌⊎◌, inl, inr, ℕ, ◌<◌, ◌≤◌, Bool, true, false, List, [], ◌∷◌, ◌++◌, length, take, refl, sym, ◌∙◌, ap, subst, arith, append_assoc, append-nil, Option, Some, None, Result, Ok, Err, IfErr, OnOk, OnErr}
+use Rattle.std.proofs.Common.{◌≡◌, ◌≢◌, ◌⊎◌, inl, inr, ℕ, ◌<◌, ◌≤◌, Bool, true, false, List, [], ◌++◌, length, take, refl, sym, ◌∙◌, ap, subst, arith, append_assoc, append-nil, Option, Some, None, Result, Ok, Err, IfErr, OnOk, OnErr}
 use Rattle.std.specs.Option.{option_map, IsSomeAnd}
 use Rattle.std.proofs.lemmas.List.{length-take}
 use Rattle.disk_model.specs.Causes.{HasCause, Rose}
 use Rattle.disk_model.specs.Disk.{Content}
 use Rattle.disk_model.specs.Identity.{NamedDisk}
-use Rattle.disk_model.specs.Moments.{content_now, EachMoment}
-use Rattle.run_model.specs.Ending.{Ending, Refusal, Complete, Refused, Failed, NoMemory, ByWords, ByKey, ByImage, ByLine, ByLength, refused_status, status_of, fault_text}
-use Rattle.stream_io.specs.Stream.{with_bytes, AddsPrefix}
-use Rattle.script_session.specs.LineRun.{held_with}
+use Rattle.disk_model.specs.Moments.{content_now}
+use Rattle.run_model.specs.Ending.{Ending, Refusal, Complete, Refused, Failed, NoMemory, ByWords, ByKey, ByImage, BySecond, ByLegs, ByLine, ByLength, refused_status, status_of, fault_text}
+use Rattle.stream_io.specs.Stream.{AddsPrefix, held_with, with_bytes}
 use Rattle.command_ending.specs.Ended.{refusal_of, ending_of}
 use Rattle.command_ending.specs.declared.ended.Ended.{Ended}
 use Rattle.command_ending.specs.declared.ended.Ended.TheVariants as Endings
@@ -16,31 +15,21 @@ use Rattle.run_model.specs.CommandRun.{Faults, Outset, RefusedBy, RunsOn, Prints
 use Rattle.nbd_command.specs.ServedRun as ends
 use Rattle.nbd_command.specs.ServedRun.{SessionEnd, session_status}
 use Rattle.run_model.specs.ServedRun.{HasSessionCause}
-use Rattle.integrity_tool.specs.Ends.{IsBeforeScript}
+use Rattle.command_task.specs.Running.{IsBeforeScript}
+use Rattle.script_lines.specs.Taken.{HoldsText}
+use Rattle.script_lines.specs.Ends.{HasEndCause}
 use Rattle.integrity_tool.specs.KeyFile.{IsKeyRefused}
-use Rattle.integrity_tool.specs.declared.telling.Telling.{Telling}
-use Rattle.integrity_tool.specs.declared.telling.Telling.TheVariants.{Lines, Replies}
-use Rattle.integrity_tool.specs.Opening.{EndsImage, HasRunIn, HasRunOn}
-use Rattle.integrity_tool.specs.Running.{HasEndCause, HoldsText}
-use Rattle.integrity_tool.specs.Serving.{session_ending}
-use Rattle.integrity_tool.specs.Telling.{last_text}
+use Rattle.command_task.specs.declared.telling.Telling.{Telling}
+use Rattle.command_task.specs.declared.telling.Telling.TheVariants.{Lines, Replies}
+use Rattle.command_task.specs.Opening.{EndsImage, HasRunIn, HasRunOn}
+use Rattle.command_task.specs.Serving.{session_ending}
+use Rattle.command_task.specs.Telling.{last_text}
 use Rattle.integrity_tool.specs.Top.{Given, HasStatus, IsCountedBy, TellsIn, TellsRun, outset_in}
 use Rattle.integrity_tool.specs.World.{Counts, rises}
-use Rattle.integrity_tool.proofs.LoopLemmas.{same_ended}
-use Rattle.integrity_tool.proofs.RunningLemmas.{told_nothing}
+use Rattle.command_task.proofs.EndedLemmas.{same_ended}
+use Rattle.command_task.proofs.RunningLemmas.{told_nothing}
 use Rattle.run_model.specs.declared.outer.Outer.TheVariants as outers
 use Rattle.command_ending.specs.declared.refusal.Refusal.TheVariants as refusals
-
--- ---- the disk
-
--- A disk that tells its content tells it at the end of a call.
-pub told_at_end : {a b : List Content} {P : Content → Type 0} (c : Content) → content_now a ≡ Some c → EachMoment a b P
-    → (d : Content) × (content_now b ≡ Some d)
-told_at_end {a} {b} {P} c told each = by each.since each.grows
-  where
-    by : (since : List Content) → b ≡ since ++ a → (d : Content) × (content_now b ≡ Some d)
-    by [] grows = (c, ap content_now grows ∙ told)
-    by (d ∷ since) grows = (d, ap content_now grows)
 
 -- ---- causes
 
@@ -112,6 +101,8 @@ refused_is_high : (refusal : Refusal) → 2 ≤ refused_status refusal
 refused_is_high ByWords = omega arith
 refused_is_high (ByKey refusal) = omega arith
 refused_is_high (ByImage fault) = omega arith
+refused_is_high (BySecond fault) = omega arith
+refused_is_high (ByLegs a_blocks a_size b_blocks b_size) = omega arith
 refused_is_high (ByLine number fault) = omega arith
 refused_is_high ByLength = omega arith
 
@@ -119,6 +110,8 @@ refused_is_low : (refusal : Refusal) → refused_status refusal ≤ 3
 refused_is_low ByWords = omega arith
 refused_is_low (ByKey refusal) = omega arith
 refused_is_low (ByImage fault) = omega arith
+refused_is_low (BySecond fault) = omega arith
+refused_is_low (ByLegs a_blocks a_size b_blocks b_size) = omega arith
 refused_is_low (ByLine number fault) = omega arith
 refused_is_low ByLength = omega arith
 
@@ -371,6 +364,8 @@ image_refused (Endings.Refused (refusals.Key refusal)) is = tt
 image_refused (Endings.Refused (refusals.Line number refusal)) is = absurd (omega (arith, is))
 image_refused (Endings.Refused refusals.Length) is = absurd (omega (arith, is))
 image_refused (Endings.Refused (refusals.Image fault)) is = tt
+image_refused (Endings.Refused (refusals.Second fault)) is = tt
+image_refused (Endings.Refused (refusals.Legs a_blocks a_size b_blocks b_size)) is = tt
 image_refused (Endings.Failed outers.Disk) is = absurd (omega (arith, is))
 image_refused (Endings.Failed outers.Key) is = tt
 image_refused (Endings.Failed outers.Script) is = absurd (omega (arith, is))

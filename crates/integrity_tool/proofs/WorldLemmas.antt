@@ -3,17 +3,17 @@ use Rattle.std.proofs.Common.{◌≡◌, ◌⊎◌, inl, inr, ℕ, List, refl, s
 use Rattle.disk_model.specs.Disk.{Content}
 use Rattle.command_ending.specs.declared.ended.Ended.{Ended}
 use Rattle.command_ending.specs.declared.ended.Ended.TheVariants as Endings
-use Rattle.integrity_tool.specs.declared.asked.Asked.{Asked}
-use Rattle.integrity_tool.specs.declared.asked.Task.{Task}
-use Rattle.integrity_tool.specs.declared.asked.Task.TheVariants as Tasks
+use Rattle.command_task.specs.declared.asked.Asked.{Asked}
+use Rattle.command_task.specs.declared.asked.Task.{Task}
+use Rattle.command_task.specs.declared.asked.Task.TheVariants as Tasks
 use Rattle.integrity_tool.specs.declared.top_call.Outside.{Outside}
 use Rattle.integrity_tool.specs.KeyFile.{HasFile, HasHash, IsKeyed, ReadsKey, ReadsKeyFile}
-use Rattle.integrity_tool.specs.Outset.{key_by}
+use Rattle.command_task.specs.Outset.{key_by}
 use Rattle.integrity_tool.specs.Top.{HasWrongKey}
-use Rattle.integrity_tool.specs.Unopened.{IsUnopenedAt, IsUnopenedFor}
-use Rattle.integrity_tool.specs.Words.{asked_of, key_file_of, key_file_of_asked}
+use Rattle.command_task.specs.Unopened.{IsUnopenedAt, IsUnopenedFor}
+use Rattle.command_task.specs.Words.{asked_of, key_file_of, key_file_of_asked}
 use Rattle.integrity_tool.specs.World.{World}
-use Rattle.integrity_tool.proofs.KeyLemmas.{ok_no_err}
+use Rattle.command_task.proofs.EndedLemmas.{ok_no_err}
 use Rattle.command_ending.specs.declared.refusal.Refusal.TheVariants as refusals
 
 -- ---- the words

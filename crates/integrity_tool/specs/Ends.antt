@@ -3,8 +3,8 @@ use Rattle.std.specs.Prelude.{◌≡◌, ◌≢◌, ◌⊎◌, ℕ, ◌≤◌, R
 use Rattle.command_ending.specs.declared.ended.Ended.{Ended}
 use Rattle.command_ending.specs.declared.ended.Ended.TheVariants as Endings
 use Rattle.integrity_tool.specs.KeyFile.{HasKeyRead}
-use Rattle.run_model.specs.declared.outer.Outer.TheVariants as outers
 use Rattle.command_ending.specs.declared.refusal.Refusal.TheVariants as refusals
+use Rattle.command_task.specs.Running.{IsBeforeScript}
 
 -- It came to its end; it ended with the words, or for want of memory; it ended before its script; and where there is a
 -- key file, that was read.
@@ -13,14 +13,6 @@ pub record Ends : Type 1 where
   pub by_words : Type 0
   pub before_script : Type 0
   pub key_read : Type 0
-
--- It ended a command before its script: nothing of that is read.
-abbrev pub IsBeforeScript : Ended → Type 0
-IsBeforeScript (Endings.Refused (refusals.Line number refusal)) = ⊥
-IsBeforeScript (Endings.Refused refusals.Length) = ⊥
-IsBeforeScript (Endings.Refused refusal) = Unit {0}
-IsBeforeScript (Endings.Failed outers.Key) = Unit {0}
-IsBeforeScript ended = ⊥
 
 -- What its status tells of that.
 abbrev pub ends_with : (status : ℕ) → Ends

@@ -7,7 +7,7 @@ use Rattle.stream_io.specs.Stream.{TakesAtMost}
 use Rattle.command_ending.specs.declared.ended.Ended.{Ended}
 use Rattle.command_ending.specs.declared.ended.Ended.TheVariants as Endings
 use Rattle.integrity_tool.specs.declared.top_call.Outside.{Outside}
-use Rattle.integrity_tool.specs.Outset.{key_by}
+use Rattle.command_task.specs.Outset.{key_by}
 use Rattle.integrity_tool.specs.World.{World}
 use Rattle.run_model.specs.declared.outer.Outer.TheVariants as outers
 use Rattle.command_ending.specs.declared.refusal.Refusal.TheVariants as refusals

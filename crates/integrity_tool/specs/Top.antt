@@ -12,22 +12,24 @@ use Rattle.run_model.specs.Ending.{fault_text}
 use Rattle.run_model.specs.declared.key_refusal.KeyRefusal.{KeyRefusal}
 use Rattle.run_model.specs.CommandRun.{Faults, HasCauseIn, Outset, Serves, Tells}
 use Rattle.run_model.specs.ServedRun.{TellsServed}
-use Rattle.script_session.specs.declared.tags_found.TagsFound.{TagsFound}
+use Rattle.script_text.specs.declared.tags_found.TagsFound.{TagsFound}
 use Rattle.command_ending.specs.Ended.{ending_of}
 use Rattle.command_ending.specs.declared.ended.Ended.{Ended}
 use Rattle.command_ending.specs.declared.ended.Ended.TheVariants as Endings
 use Rattle.integrity_tool.specs.declared.top_call.Outside.{Outside}
-use Rattle.integrity_tool.specs.Closed.{IsClosedFor}
+use Rattle.command_task.specs.Closed.{IsClosedFor}
 use Rattle.integrity_tool.specs.Ends.{Ends}
 use Rattle.integrity_tool.specs.KeyFile.{HasFile, ReadsKeyFile}
-use Rattle.integrity_tool.specs.declared.telling.Telling.{Telling}
-use Rattle.integrity_tool.specs.Opening.{HasReadIn, HasRunIn, IsMomentOf}
-use Rattle.integrity_tool.specs.Order.{IsInOrderFor}
-use Rattle.integrity_tool.specs.Outset.{geometry_on, key_by, outset_of}
-use Rattle.integrity_tool.specs.Running.{HasTaken, IsCounted, ending_by}
-use Rattle.integrity_tool.specs.Serving.{most_taken_for}
-use Rattle.integrity_tool.specs.Unopened.{IsUnopenedFor}
-use Rattle.integrity_tool.specs.Words.{HasNoScript, asked_of, image_name, key_file_of_asked}
+use Rattle.command_task.specs.declared.telling.Telling.{Telling}
+use Rattle.command_task.specs.Opening.{HasReadIn, HasRunIn, IsMomentOf}
+use Rattle.command_task.specs.Order.{IsInOrderFor}
+use Rattle.command_task.specs.Outset.{geometry_on, key_by, outset_of}
+use Rattle.command_task.specs.Running.{ending_by}
+use Rattle.script_lines.specs.Taken.{HasTaken}
+use Rattle.script_lines.specs.Ends.{IsCounted}
+use Rattle.command_task.specs.Serving.{most_taken_for}
+use Rattle.command_task.specs.Unopened.{IsUnopenedFor}
+use Rattle.command_task.specs.Words.{HasNoScript, asked_of, image_name, key_file_of_asked}
 use Rattle.integrity_tool.specs.World.{Counts, World, rises}
 use Rattle.run_model.specs.declared.outer.Outer.TheVariants as outers
 

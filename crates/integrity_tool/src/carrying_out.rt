@@ -2,28 +2,24 @@
 ghost use Rattle.std.specs.Prelude.{◌≡◌, IfErr};
 ghost use Rattle.disk_model.specs.Identity.{IsBound};
 ghost use Rattle.hmac_tag.specs.TagMaker.{key_of};
-ghost use Rattle.integrity_tool.specs.Calls.{HasCauseOfRun, IsCountedInRun, LeavesUnread, ReadsOnlyRun, RunsAsked};
-ghost use Rattle.integrity_tool.specs.Closed.{ClosesTask};
-ghost use Rattle.integrity_tool.specs.Opening.{EndsImage};
-ghost use Rattle.integrity_tool.specs.Outset.{task_outset};
-ghost use Rattle.integrity_tool.specs.Running.{HasTaken, ending_by};
-ghost use Rattle.integrity_tool.specs.Serving.{most_taken_at};
-ghost use Rattle.integrity_tool.specs.Tasks.{found_by};
-ghost use Rattle.integrity_tool.specs.Words.{IsTask};
+ghost use Rattle.command_task.specs.Calls.{HasCauseOfRun, IsCountedInRun, LeavesUnread, ReadsOnlyRun, RunsAsked};
+ghost use Rattle.command_task.specs.Closed.{ClosesTask};
+ghost use Rattle.command_task.specs.Opening.{EndsImage};
+ghost use Rattle.command_task.specs.Outset.{task_outset};
+ghost use Rattle.command_task.specs.Running.{ending_by};
+ghost use Rattle.script_lines.specs.Taken.{HasTaken};
+ghost use Rattle.command_task.specs.Serving.{most_taken_at};
+ghost use Rattle.command_image.specs.Tasks.{found_by};
+ghost use Rattle.command_task.specs.Words.{IsTask};
 
-use crate::asked::Task;
-use crate::checking::print_check;
-use crate::dumping::print_image;
-use crate::exercising::exercise_image;
-use crate::making::make_image;
-use crate::opening::run_image;
-use crate::resizing::resize_image;
-use crate::salvaging::print_salvage;
-use crate::serving::serve_image;
-use crate::telling::Telling;
 use command_ending::Ended;
+use command_image::{
+    exercise_image, make_image, print_check, print_image, print_salvage, resize_image,
+};
+use command_run::{run_image, serve_image};
+use command_task::{Task, Telling};
 use hmac_tag::Hash;
-use script_session::TagsFound;
+use script_text::TagsFound;
 use sector_disk::Disk;
 use std::alloc::Global;
 use stream_io::{Sink, Source};

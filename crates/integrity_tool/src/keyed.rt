@@ -1,9 +1,9 @@
 //! The hash of tags, with the key that a file has.
 ghost use Rattle.std.specs.Prelude.{Err, IfErr, IfOk};
 ghost use Rattle.hmac_tag.specs.TagMaker.{key_of};
-ghost use Rattle.integrity_tool.specs.Words.{key_file_of};
+ghost use Rattle.command_task.specs.Words.{key_file_of};
 ghost use Rattle.integrity_tool.specs.KeyFile.{HasHash, HasKeyRead, IsKeyRefused, IsKeyed, ReadsKey};
-ghost use Rattle.integrity_tool.specs.Running.{IsCounted};
+ghost use Rattle.script_lines.specs.Ends.{IsCounted};
 
 use command_ending::{Ended, KeyRefusal, Outer, Refusal};
 use command_words::HashChoice;

@@ -4,7 +4,7 @@ ghost use Rattle.disk_model.specs.Causes.{HasCause};
 ghost use Rattle.journal_model.specs.Ring.{has_room};
 ghost use Rattle.request_slots.specs.Flight.{FitsFlight, is_in_flight, turn_of};
 ghost use Rattle.request_slots.specs.declared.turn.Turn.TheVariants as Turns;
-ghost use Rattle.device_parts.specs.Answers.{condition_by};
+ghost use Rattle.device_parts.specs.Answers.{condition_by, IsOfNoRead};
 ghost use Rattle.device_parts.specs.declared.condition.Condition.TheVariants.{Working};
 ghost use Rattle.journal_device.specs.Answers.{Serves, WritesFor};
 ghost use Rattle.journal_device.specs.Device.{IsReady, kept};
@@ -47,6 +47,7 @@ pub fn serve<D: Disk>(
 
     ensures ready { IsReady (condition_by result) parts.new state.new (D.identity disk.new) (D.moments disk.new) }
     ensures identity { D.identity disk.new ≡ D.identity disk.old }
+    ensures unread { IsOfNoRead (turn_of parts.old.slots ticket.now) → D.reads disk.new ≡ D.reads disk.old }
     ensures writes { WritesFor (turn_of parts.old.slots ticket.now) parts.old state.old
         (D.moments disk.old) (D.moments disk.new) }
 {
@@ -119,6 +120,7 @@ fn serve_write<D: Disk>(
 
     ensures ready { IsReady (condition_by result) parts.new state.new (D.identity disk.new) (D.moments disk.new) }
     ensures identity { D.identity disk.new ≡ D.identity disk.old }
+    ensures unread { D.reads disk.new ≡ D.reads disk.old }
     ensures writes { WritesFor (turn_of parts.old.slots ticket.now) parts.old state.old
         (D.moments disk.old) (D.moments disk.new) }
 {
@@ -152,6 +154,7 @@ fn serve_flush<D: Disk>(
 
     ensures ready { IsReady (condition_by result) parts.new state.new (D.identity disk.new) (D.moments disk.new) }
     ensures identity { D.identity disk.new ≡ D.identity disk.old }
+    ensures unread { D.reads disk.new ≡ D.reads disk.old }
     ensures writes { WritesFor (turn_of parts.old.slots ticket.now) parts.old state.old
         (D.moments disk.old) (D.moments disk.new) }
 {

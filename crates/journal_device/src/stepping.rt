@@ -6,7 +6,7 @@ ghost use Rattle.disk_model.specs.Moments.{EachSince};
 ghost use Rattle.recalculation.specs.Recalculation.{IsOfTagsOrHead, StaysOnDisk, fields_next};
 ghost use Rattle.tag_store.specs.Store.{IsStore};
 ghost use Rattle.device_model.specs.Actors.{actor_of};
-ghost use Rattle.device_parts.specs.Answers.{condition_by};
+ghost use Rattle.device_parts.specs.Answers.{condition_by, IsUnreadStep};
 ghost use Rattle.device_parts.specs.declared.condition.Condition.TheVariants.{Working};
 ghost use Rattle.journal_device.specs.Answers.{HasNoWork, MovesFieldsTo, Steps, WritesAs};
 ghost use Rattle.journal_device.specs.Answers.{moved_as, steps_left};
@@ -52,6 +52,7 @@ pub fn step<D: Disk>(
     ensures ready { IsReady (condition_by result) parts.new state.new (D.identity disk.new) (D.moments disk.new) }
     ensures slots { parts.new.slots ≡ parts.old.slots }
     ensures identity { D.identity disk.new ≡ D.identity disk.old }
+    ensures unread { IsUnreadStep actor → D.reads disk.new ≡ D.reads disk.old }
     ensures heads { MovesFieldsTo (fields_next state.old.recalculation) (kept parts.old state.old)
         (D.moments disk.old) (D.moments disk.new) }
     ensures writes { WritesAs actor parts.old state.old (D.moments disk.old) (D.moments disk.new) }

@@ -32,6 +32,7 @@ pub(crate) fn flush_if<D: Disk>(
 
     ensures store { OnOk result (IsStore tags.now (D.identity disk.new) (D.moments disk.new)) }
     ensures identity { D.identity disk.new ≡ D.identity disk.old }
+    ensures unread { D.reads disk.new ≡ D.reads disk.old }
     ensures geometry { journal.new.ring.geometry ≡ journal.old.ring.geometry }
 
     ensures left { (w : JournalStanding) → StandsAs w journal.old tags.now (D.moments disk.old)

@@ -15,7 +15,7 @@ use Rattle.journal_model.specs.Ring.{JournalRing, entries_of}
 use Rattle.journal_model.proofs.EntriesLemmas.{last_entry-append, last_entry-some}
 use Rattle.journal_overlay.specs.Kept.{added, newest_of, place_for}
 use Rattle.journal_overlay.specs.declared.place.Added.{Added}
-use Rattle.journal_overlay.specs.declared.place.Place.{Place}
+use Rattle.image_model.specs.declared.entry_place.EntryPlace.{EntryPlace}
 use Rattle.journal_ring.specs.Places.{entries_at, oldest_at}
 use Rattle.journal_ring.specs.RoomLaws.{HasBounds}
 use Rattle.journal_ring.specs.Sections.{wrap}
@@ -37,7 +37,7 @@ or_or (Some x) p q = refl
 
 newest_of-append : (b : ℕ) (xs ys : List Added) → newest_of b (xs ++ ys) ≡ option_or (newest_of b ys) (newest_of b xs)
 newest_of-append b [] ys = sym (or_none (newest_of b ys))
-newest_of-append b (x ∷ xs) ys = ap (λ (o : Option Place). option_or o (place_for b x)) (newest_of-append b xs ys) ∙ or_or (newest_of b ys) (newest_of b xs) (place_for b x)
+newest_of-append b (x ∷ xs) ys = ap (λ (o : Option EntryPlace). option_or o (place_for b x)) (newest_of-append b xs ys) ∙ or_or (newest_of b ys) (newest_of b xs) (place_for b x)
 
 -- ---- the block of an entry
 
@@ -50,7 +50,7 @@ is_block g entry b some is = ap (λ (x : ℕ). x / g.shape.spb) is ∙ mul-div_c
 -- ---- in one section
 
 -- The place is one of the section's, and the entry there is the block's last.
-record IsIn (g : Geometry) (section n : ℕ) (xs : List Entry) (b : ℕ) (place : Place) : Type 0 where
+record IsIn (g : Geometry) (section n : ℕ) (xs : List Entry) (b : ℕ) (place : EntryPlace) : Type 0 where
   k : ℕ
   section_is : place.section ≡ section
   entry_is : place.entry ≡ n + k
@@ -58,7 +58,7 @@ record IsIn (g : Geometry) (section n : ℕ) (xs : List Entry) (b : ℕ) (place 
   there : slice_get xs k ≡ Some entry
   last : last_entry g xs b ≡ Some entry
 
-abbrev TellsIn : Geometry → (section n : ℕ) → List Entry → ℕ → Option Place → Type 0
+abbrev TellsIn : Geometry → (section n : ℕ) → List Entry → ℕ → Option EntryPlace → Type 0
 TellsIn g section n xs b None = last_entry g xs b ≡ None
 TellsIn g section n xs b (Some place) = IsIn g section n xs b place
 
@@ -66,7 +66,7 @@ tells_in : (g : Geometry) (section n : ℕ) (xs : List Entry) (b : ℕ) → 1 �
 tells_in g section n [] b some whole = refl
 tells_in g section n (x ∷ xs) b some whole = by (newest_of b (places_in g section (n + 1) xs)) (tells_in g section (n + 1) xs b some whole.1)
   where
-    here : Place
+    here : EntryPlace
     here = record { section = section; entry = n }
 
     first : (t : Bool) → (block_of g x == b) ≡ t → last_entry g xs b ≡ None → TellsIn g section n (x ∷ xs) b (if t then Some here else None)
@@ -88,7 +88,7 @@ tells_in g section n (x ∷ xs) b some whole = by (newest_of b (places_in g sect
           ∙ (let alone : last_entry g (x ∷ []) b ≡ None = rw (ne_eqb x.sector (b * g.shape.spb) other) refl in alone)
     ]
 
-    by : (o : Option Place) → TellsIn g section (n + 1) xs b o → TellsIn g section n (x ∷ xs) b (option_or o (place_for b (added (block_of g x) here)))
+    by : (o : Option EntryPlace) → TellsIn g section (n + 1) xs b o → TellsIn g section n (x ∷ xs) b (option_or o (place_for b (added (block_of g x) here)))
     by None none = first (block_of g x == b) refl none
     by (Some place) is = record {
       k = suc is.k;
@@ -102,7 +102,7 @@ tells_in g section n (x ∷ xs) b some whole = by (newest_of b (places_in g sect
 -- ---- in sections in a row
 
 -- The place is one of these sections', and the entry there is the block's last.
-pub record IsAmong (g : Geometry) (at : ℕ) (xs : List (List Entry)) (b : ℕ) (place : Place) : Type 0 where
+pub record IsAmong (g : Geometry) (at : ℕ) (xs : List (List Entry)) (b : ℕ) (place : EntryPlace) : Type 0 where
   pub k : ℕ
   pub low : k < length xs
   pub section_is : place.section ≡ wrap g.sections (at + k)
@@ -110,7 +110,7 @@ pub record IsAmong (g : Geometry) (at : ℕ) (xs : List (List Entry)) (b : ℕ) 
   pub there : slice_get (get_or xs k []) place.entry ≡ Some entry
   pub last : last_entry g (entries_of xs) b ≡ Some entry
 
-abbrev TellsAmong : Geometry → (at : ℕ) → List (List Entry) → ℕ → Option Place → Type 0
+abbrev TellsAmong : Geometry → (at : ℕ) → List (List Entry) → ℕ → Option EntryPlace → Type 0
 TellsAmong g at xs b None = last_entry g (entries_of xs) b ≡ None
 TellsAmong g at xs b (Some place) = IsAmong g at xs b place
 
@@ -124,7 +124,7 @@ tells_among g at (x ∷ xs) b some low fits whole =
     joined : last_entry g (entries_of (x ∷ xs)) b ≡ option_or (last_entry g (entries_of xs) b) (last_entry g x b)
     joined = last_entry-append g x (entries_of xs) b
 
-    within : (o : Option Place) → last_entry g (entries_of xs) b ≡ None → TellsIn g at 0 x b o → TellsAmong g at (x ∷ xs) b o
+    within : (o : Option EntryPlace) → last_entry g (entries_of xs) b ≡ None → TellsIn g at 0 x b o → TellsAmong g at (x ∷ xs) b o
     within None none absent = joined ∙ ap (λ (o : Option Entry). option_or o (last_entry g x b)) none ∙ absent
     within (Some place) none is = record {
       k = 0;
@@ -135,7 +135,7 @@ tells_among g at (x ∷ xs) b some low fits whole =
       last = joined ∙ ap (λ (o : Option Entry). option_or o (last_entry g x b)) none ∙ is.last;
     }
 
-    by : (o : Option Place) → TellsAmong g (wrap g.sections (at + 1)) xs b o → TellsAmong g at (x ∷ xs) b (option_or o (newest_of b (places_in g at 0 x)))
+    by : (o : Option EntryPlace) → TellsAmong g (wrap g.sections (at + 1)) xs b o → TellsAmong g at (x ∷ xs) b (option_or o (newest_of b (places_in g at 0 x)))
     by None none = within (newest_of b (places_in g at 0 x)) none (tells_in g at 0 x b some whole.0)
     by (Some place) is = let within_ = is.low in record {
       k = suc is.k;
@@ -162,14 +162,14 @@ position-behind n first k low inside = elim (cases_lt (first + k) n) [
 ]
 
 -- The place is one of the ring's, and the entry there is the block's newest.
-pub record IsNewest (ring : JournalRing) (b : ℕ) (place : Place) : Type 0 where
+pub record IsNewest (ring : JournalRing) (b : ℕ) (place : EntryPlace) : Type 0 where
   pub section_low : place.section < ring.geometry.sections
   pub entry : Entry
   pub there : slice_get (entries_at ring place.section) place.entry ≡ Some entry
   pub newest : newest_in ring b ≡ Some entry
 
 -- What the places of a ring tell of a block.
-abbrev pub TellsNewest : JournalRing → ℕ → Option Place → Type 0
+abbrev pub TellsNewest : JournalRing → ℕ → Option EntryPlace → Type 0
 TellsNewest ring b None = newest_in ring b ≡ None
 TellsNewest ring b (Some place) = IsNewest ring b place
 
@@ -188,7 +188,7 @@ tells_newest ring b some bounds whole = by (newest_of b (places_of ring)) (tells
     all : AllByRecursion (AllByRecursion (IsWholeEntry ring.geometry)) (sections_of ring)
     all = all_append (AllByRecursion (IsWholeEntry ring.geometry)) ring.committed ring.opened whole.whole whole.whole_opened
 
-    by : (o : Option Place) → TellsAmong ring.geometry (oldest_at ring) (sections_of ring) b o → TellsNewest ring b o
+    by : (o : Option EntryPlace) → TellsAmong ring.geometry (oldest_at ring) (sections_of ring) b o → TellsNewest ring b o
     by None none = none
     by (Some place) is =
         let n = ring.geometry.sections in

@@ -11,7 +11,7 @@ use Rattle.journal_model.specs.Ring.{HasFreeSection, JournalRing, entries_of, ha
 use Rattle.journal_model.proofs.JournalRingLemmas.{entries_of-append, free_section_law, length-put_last}
 use Rattle.journal_overlay.specs.Kept.{Places, added}
 use Rattle.journal_overlay.specs.declared.place.Added.{Added}
-use Rattle.journal_overlay.specs.declared.place.Place.{Place}
+use Rattle.image_model.specs.declared.entry_place.EntryPlace.{EntryPlace}
 use Rattle.journal_ring.specs.Places.{next_place, oldest_at}
 use Rattle.journal_ring.specs.Ring.{with_open, with_section}
 use Rattle.journal_ring.specs.RoomLaws.{HasBounds}
@@ -144,7 +144,7 @@ module _ (ring : JournalRing) (geometry : IsGeometry ring.geometry (2 ^ 48)) (bo
 -- ---- for callers
 
 -- The journal with an entry more, and its place.
-pub put_is : (ring : JournalRing) (p : Placement) (overlay : Places) (entry : Entry) (block : ℕ) (place : Place) → IsJournal ring p overlay → has_room ring ≡ true → IsWholeEntry ring.geometry entry
+pub put_is : (ring : JournalRing) (p : Placement) (overlay : Places) (entry : Entry) (block : ℕ) (place : EntryPlace) → IsJournal ring p overlay → has_room ring ≡ true → IsWholeEntry ring.geometry entry
     → block ≡ block_of ring.geometry entry → place ≡ next_place (with_open ring)
     → IsJournal (with_put entry ring) p (record overlay { kept = overlay.kept ++ added block place ∷ [] })
 put_is ring p overlay entry block place is room whole block_is place_is = record {
@@ -156,7 +156,7 @@ put_is ring p overlay entry block place is room whole block_is place_is = record
   kept =
       ap (λ (xs : List Added). xs ++ added block place ∷ []) is.kept
       ∙ ap (λ (b : ℕ). places_of ring ++ added b place ∷ []) block_is
-      ∙ ap (λ (x : Place). places_of ring ++ added (block_of ring.geometry entry) x ∷ []) place_is
+      ∙ ap (λ (x : EntryPlace). places_of ring ++ added (block_of ring.geometry entry) x ∷ []) place_is
       ∙ sym (places_of-put ring is.geometry is.bounds is.few entry room);
 }
 

@@ -21,7 +21,7 @@ use Rattle.journal_model.specs.JournaledDisk.{StandsFor}
 use Rattle.journal_model.specs.Ring.{JournalRing, entries_of, uncommitted_entries}
 use Rattle.journal_model.proofs.PlaceLemmas.{cell_after-cells}
 use Rattle.journal_overlay.specs.Kept.{Places, newest_of}
-use Rattle.journal_overlay.specs.declared.place.Place.{Place}
+use Rattle.image_model.specs.declared.entry_place.EntryPlace.{EntryPlace}
 use Rattle.journal_ring.specs.Places.{entries_at}
 use Rattle.recalculate_laws.specs.Taking.{KeepsAwaitingNow}
 use Rattle.recalculate_laws.proofs.DeviceLemmas.{whole_read_law}
@@ -35,22 +35,22 @@ use Rattle.journal_mode.proofs.NewestLemmas.{IsNewest, TellsNewest, tells_newest
 -- ---- what the overlay tells
 
 module _ (ring : JournalRing) (p : Placement) (overlay : Places) (is : IsJournal ring p overlay) (block : ℕ) where
-  told : (o : Option Place) → newest_of block overlay.kept ≡ o → TellsNewest ring block o
+  told : (o : Option EntryPlace) → newest_of block overlay.kept ≡ o → TellsNewest ring block o
   told o e = subst (TellsNewest ring block) (sym (ap (newest_of block) is.kept) ∙ e) (tells_newest ring block is.geometry.spb.0 is.bounds is.placement.ring_)
 
-  pub found : (place : Place) → Some place ≡ newest_of block overlay.kept → IsNewest ring block place
+  pub found : (place : EntryPlace) → Some place ≡ newest_of block overlay.kept → IsNewest ring block place
   found place e = told (Some place) (sym e)
 
   pub absent : None ≡ newest_of block overlay.kept → newest_in ring block ≡ None
   absent e = told None (sym e)
 
-pub entry_low : (ring : JournalRing) (block : ℕ) (place : Place) → (is : IsNewest ring block place) → place.entry < length (entries_at ring place.section)
+pub entry_low : (ring : JournalRing) (block : ℕ) (place : EntryPlace) → (is : IsNewest ring block place) → place.entry < length (entries_at ring place.section)
 entry_low ring block place is = slice_get_within (entries_at ring place.section) place.entry is.entry is.there
 
 pub held_is : (ring : JournalRing) (p : Placement) (overlay : Places) → IsJournal ring p overlay → (block : ℕ) → is_some (newest_of block overlay.kept) ≡ is_some (newest_in ring block)
 held_is ring p overlay is block = by (newest_of block overlay.kept) (told ring p overlay is block (newest_of block overlay.kept) refl)
   where
-    by : (o : Option Place) → TellsNewest ring block o → is_some o ≡ is_some (newest_in ring block)
+    by : (o : Option EntryPlace) → TellsNewest ring block o → is_some o ≡ is_some (newest_in ring block)
     by None none = sym (ap (λ (x : Option Entry). is_some x) none)
     by (Some place) found_ = sym (ap (λ (x : Option Entry). is_some x) found_.newest)
 

@@ -168,6 +168,7 @@ impl<'p> Journal<'p> {
 
         ensures store { OnOk result (IsStore tags.now (D.identity disk.new) (D.moments disk.new)) }
         ensures identity { D.identity disk.new ≡ D.identity disk.old }
+        ensures unread { D.reads disk.new ≡ D.reads disk.old }
         // What holds of every journal.
         ensures bounds { HasBounds self.old.ring }
 
@@ -201,6 +202,7 @@ impl<'p> Journal<'p> {
 
         ensures store { OnOk result (IsStore tags.now (D.identity disk.new) (D.moments disk.new)) }
         ensures identity { D.identity disk.new ≡ D.identity disk.old }
+        ensures unread { D.reads disk.new ≡ D.reads disk.old }
 
         ensures left { (w : JournalStanding) → StandsAs w self.old tags.now (D.moments disk.old)
             → IsLeftThrough w (D.moments disk.old) (D.moments disk.new) }
@@ -264,6 +266,7 @@ impl<'p> Journal<'p> {
         ensures geometry { (tags.new.geometry ≡ tags.old.geometry)
             × (self.new.ring.geometry ≡ self.old.ring.geometry) }
         ensures identity { D.identity disk.new ≡ D.identity disk.old }
+        ensures unread { D.reads disk.new ≡ D.reads disk.old }
 
         ensures left { (w : JournalStanding) → StandsAs w self.old tags.old (D.moments disk.old)
             → IsLeftThrough w (D.moments disk.old) (D.moments disk.new) }

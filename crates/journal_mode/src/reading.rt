@@ -13,13 +13,13 @@ ghost use Rattle.replay.specs.Cells.{HasCells, StaysOnDisk};
 ghost use Rattle.tag_store.specs.Store.{IsOutForTag, IsStore, given_tags};
 
 use hmac_tag::Tag;
-use journal_overlay::Place;
+use image_model::EntryPlace;
 use journal_ring::Ring;
 use sector_disk::{Disk, Failed};
 use tag_store::Tags;
 
 /// Puts the bytes of an entry of the ring into `out`, and tells its tag.
-pub(crate) fn read_entry(ring: &Ring<'_>, place: Place, out: &mut [u8]) -> Tag
+pub(crate) fn read_entry(ring: &Ring<'_>, place: EntryPlace, out: &mut [u8]) -> Tag
     requires section { place.section < ring.now.geometry.sections }
     requires entry { place.entry < length (entries_at ring.now place.section) }
     requires out { length out.old ≡ 512 * ring.now.geometry.shape.spb }

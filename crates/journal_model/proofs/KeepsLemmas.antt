@@ -94,7 +94,7 @@ keeps_tag_sectors d batch bytes first b i sound is low i_low =
     let size = is.size in
     let behind = tag_byte-behind g d.sectors b i sound.formed.is_geometry low in
     let fits = order width (d.next + batch) g.sections is.fits in
-    last_image-with_run_out (section_at g d.next) bytes first (tag_byte_at g b i).0 (λ above under. omega arith)
+    last_image-with_run_out (section_at g d.next) bytes first (tag_byte_at g b i).sector (λ above under. omega arith)
 
 pub keeps_placed : KeepsPlaced
 keeps_placed d b entry tags first c keeps is adds others =

@@ -23,8 +23,8 @@ abbrev pub KeepsTagSectors : Type 0
 KeepsTagSectors = (d : JournaledDisk) (batch : ℕ) (bytes : List ℕ) (first : Content) (b i : ℕ)
     → IsSound d → IsBatch d batch bytes → b < d.geometry.blocks → i < d.geometry.shape.tag_size
     → last_image (newest_only (with_run (section_at d.geometry d.next) bytes first))
-    (tag_byte_at d.geometry b i).0
-    ≡ last_image first (tag_byte_at d.geometry b i).0
+    (tag_byte_at d.geometry b i).sector
+    ≡ last_image first (tag_byte_at d.geometry b i).sector
 
 -- The bytes of the next entry are written to its block, and then its tag, which may stand in memory.
 abbrev pub KeepsPlaced : Type 0

@@ -7,7 +7,7 @@ use Rattle.journal_overlay.specs.Kept.{newest_of, is_in}
 use Rattle.journal_overlay.specs.Nodes.{node_at, dropped, kept_places, kept_of, IsLast}
 use Rattle.journal_overlay.specs.declared.node.Node.{Node}
 use Rattle.journal_overlay.specs.declared.place.Added.{Added}
-use Rattle.journal_overlay.specs.declared.place.Place.{Place}
+use Rattle.image_model.specs.declared.entry_place.EntryPlace.{EntryPlace}
 
 true-false : true ≡ false → ⊥
 true-false e = cc
@@ -49,7 +49,7 @@ kept_places-more (x ∷ nodes) n kept = elim (cases_Bool x.is_kept) [
 -- ---- the newest place
 
 -- The newest place of a block, where the first node is kept or not.
-newest-cons : (b : ℕ) (x : Node) (nodes : List Node) (r : Option Place) → newest_of b (kept_places nodes) ≡ r
+newest-cons : (b : ℕ) (x : Node) (nodes : List Node) (r : Option EntryPlace) → newest_of b (kept_places nodes) ≡ r
     → newest_of b (kept_places (x ∷ nodes)) ≡ option_or r (if kept_of b x then Some x.added.place else None)
 newest-cons b x nodes None rest = elim (cases_Bool x.is_kept) [
   | inl stays ↦ simp (stays, rest)

@@ -5,7 +5,7 @@ use Rattle.std.proofs.lemmas.List.{get_or_at, get_or_append_left, length-append}
 use Rattle.journal_overlay.specs.Nodes.{no_node, node_at, dropped, behind, last_of, TellsPlace}
 use Rattle.journal_overlay.specs.Slots.{last_in, place_in, slot_with}
 use Rattle.journal_overlay.specs.declared.node.Node.{Node}
-use Rattle.journal_overlay.specs.declared.place.Place.{Place}
+use Rattle.image_model.specs.declared.entry_place.EntryPlace.{EntryPlace}
 use Rattle.journal_overlay.specs.declared.table.Slot.{Slot}
 use Rattle.journal_overlay.specs.declared.table.Slot.TheVariants.{Free, Gone, Told}
 
@@ -23,7 +23,7 @@ TellsPlace-with nodes key (Some k) there = (there, refl)
 pub place_in-node : (slot : Slot) (nodes : List Node) → TellsPlace slot nodes → place_in slot ≡ option_map (λ k. (node_at nodes k).added.place) (last_in slot)
 place_in-node Free nodes tells = refl
 place_in-node (Gone own) nodes tells = refl
-place_in-node (Told at own place) nodes tells = ap (λ (p : Place). Some p) (sym tells.1)
+place_in-node (Told at own place) nodes tells = ap (λ (p : EntryPlace). Some p) (sym tells.1)
 
 -- Where one slot is set, each tells its place as before.
 pub TellsPlace-set : (slots : List Slot) (s : ℕ) (slot : Slot) (nodes : List Node) → s < length slots → TellsPlace slot nodes

@@ -2,9 +2,9 @@
 use Rattle.std.proofs.Common.{◌≡◌, ℕ, not, List, [], ◌∷◌, filter, None, Some, refl}
 use Rattle.journal_overlay.specs.Kept.{added, newest_of, is_in}
 use Rattle.journal_overlay.specs.declared.place.Added.{Added}
-use Rattle.journal_overlay.specs.declared.place.Place.{Place}
+use Rattle.image_model.specs.declared.entry_place.EntryPlace.{EntryPlace}
 
-abbrev place : (section entry : ℕ) → Place
+abbrev place : (section entry : ℕ) → EntryPlace
 place section entry = record { section = section; entry = entry }
 
 abbrev four_places : List Added

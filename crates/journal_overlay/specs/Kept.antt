@@ -1,7 +1,7 @@
 -- What a contract sees of an overlay: the places that it keeps.
 use Rattle.std.specs.Prelude.{ℕ, ◌==◌, Bool, List, [], ◌∷◌, if◌then◌else◌, Option, Some, None}
 use Rattle.std.specs.Option.{option_or}
-use Rattle.journal_overlay.specs.declared.place.Place.{Place}
+use Rattle.image_model.specs.declared.entry_place.EntryPlace.{EntryPlace}
 use Rattle.journal_overlay.specs.declared.place.Added.{Added}
 
 -- How many places can be kept, and those that are, in order of adding: each was added and its section was not dropped
@@ -11,15 +11,15 @@ pub record Places : Type 0 where
   pub kept : List Added
 
 -- The place was added for the block.
-abbrev pub added : ℕ → Place → Added
+abbrev pub added : ℕ → EntryPlace → Added
 added block place = record { block = block; place = place }
 
 -- The place, if it was added for this block.
-abbrev pub place_for : ℕ → Added → Option Place
+abbrev pub place_for : ℕ → Added → Option EntryPlace
 place_for block a = if a.block == block then Some a.place else None
 
 -- The newest place of a block: of some places the last that was added for it, if there is one.
-abbrev pub newest_of : ℕ → List Added → Option Place
+abbrev pub newest_of : ℕ → List Added → Option EntryPlace
 newest_of block [] = None
 newest_of block (a ∷ places) = option_or (newest_of block places) (place_for block a)
 

@@ -3,7 +3,7 @@
 use Rattle.std.specs.Prelude.{◌≡◌, ℕ, ◌+◌, ◌*◌, ◌/◌, ◌%◌, ◌^◌, ◌<◌, ◌≤◌, ◌==◌, Bool, true, false, List, length, drop, get_or, filter, Option, None, Some}
 use Rattle.std.specs.Int.Bits.{bit_and}
 use Rattle.std.specs.List.{position_or_len}
-use Rattle.journal_overlay.specs.declared.place.Place.{Place}
+use Rattle.image_model.specs.declared.entry_place.EntryPlace.{EntryPlace}
 use Rattle.journal_overlay.specs.declared.table.Last.{Last}
 use Rattle.journal_overlay.specs.declared.table.Slot.{Slot}
 use Rattle.journal_overlay.specs.declared.table.Slot.TheVariants.{Free, Gone, Told}
@@ -28,7 +28,7 @@ last_in Free = None
 last_in (Gone own) = None
 last_in (Told at own place) = Some at
 
-abbrev pub place_in : Slot → Option Place
+abbrev pub place_in : Slot → Option EntryPlace
 place_in Free = None
 place_in (Gone own) = None
 place_in (Told at own place) = Some place
@@ -63,7 +63,7 @@ abbrev pub last_at : (homes : ℕ) → List Slot → (key : ℕ) → Option ℕ
 last_at homes slots key = last_in (get_or slots (slot_of homes slots key) Free)
 
 -- and the place there.
-abbrev pub place_at : (homes : ℕ) → List Slot → (key : ℕ) → Option Place
+abbrev pub place_at : (homes : ℕ) → List Slot → (key : ℕ) → Option EntryPlace
 place_at homes slots key = place_in (get_or slots (slot_of homes slots key) Free)
 
 -- The search for a key ends at slot s.

@@ -11,5 +11,5 @@ mod place_log;
 mod table;
 
 pub use disk_model::Memory;
+pub use image_model::EntryPlace;
 pub use overlay::Overlay;
-pub use place::Place;

@@ -4,10 +4,11 @@
 //! the kept ones are moved together, which happens once in as many adds as a half of the places that can be kept.
 ghost use Rattle.std.specs.Prelude.{◌≡◌, ◌-◌, ◌<◌, ◌++◌, [], ◌∷◌, length, filter, not, IfOk};
 
-use crate::place::{Added, Place};
+use crate::place::Added;
 use crate::place_log::{PlaceLog, append, drop_section, sweep};
 use crate::table::Table;
 use disk_model::Memory;
+use image_model::EntryPlace;
 use std::alloc::{AllocError, Global};
 use std::marker::Model;
 
@@ -63,7 +64,7 @@ impl Overlay {
     }
 
     /// The place that was added last for a block, of those whose section was not dropped since, if there is one.
-    pub fn newest(&self, block: u64) -> Option<Place>
+    pub fn newest(&self, block: u64) -> Option<EntryPlace>
         ensures { result ≡ newest_of block self.now.kept }
     {
         self.log.newest(block)
@@ -77,7 +78,7 @@ impl Overlay {
     }
 
     /// Adds a place for a block, behind all others.
-    pub fn add(&mut self, block: u64, place: Place)
+    pub fn add(&mut self, block: u64, place: EntryPlace)
         requires room { length self.old.kept < self.old.capacity }
 
         ensures { self.new ≡ record self.old { kept = self.old.kept ++ added block place ∷ [] } }

@@ -6,8 +6,9 @@ ghost use Rattle.journal_overlay.specs.Kept.{is_in, newest_of};
 ghost use Rattle.journal_overlay.specs.Nodes.{behind, dropped, kept_places, last_of, node_at};
 
 use crate::node::{Node, newest_kept};
-use crate::place::{Added, Place};
+use crate::place::Added;
 use crate::table::{Last, Table};
+use image_model::EntryPlace;
 use std::alloc::{AllocError, Global};
 
 /// The places in order of adding, dropped ones among them, with the last kept node of each block and section.
@@ -44,7 +45,7 @@ impl PlaceLog {
     }
 
     /// The newest place of a block, if there is one.
-    pub(crate) fn newest(&self, block: u64) -> Option<Place>
+    pub(crate) fn newest(&self, block: u64) -> Option<EntryPlace>
         requires { IsWhole self.now }
 
         ensures { result ≡ newest_of block (kept_places self.now.nodes.items) }

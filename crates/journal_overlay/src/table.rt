@@ -10,7 +10,7 @@ ghost use Rattle.std.specs.Prelude.{◌≡◌, ◌+◌, ◌^◌, ◌<◌, ◌≤
 ghost use Rattle.std.specs.List.{position_or_len};
 ghost use Rattle.journal_overlay.specs.Slots.{bit_of, HasBits, home_of, slot_of, slot_with, last_at, last_in, place_at, place_in, stops};
 
-use crate::place::Place;
+use image_model::EntryPlace;
 use std::alloc::{AllocError, Global};
 use std::mem::size_of;
 
@@ -23,7 +23,7 @@ const SPREAD: u64 = 0x9e37_79b9_7f4a_7c15;
 #[derive(Clone, Copy)]
 pub(crate) struct Last {
     pub(crate) at: u32,
-    pub(crate) place: Place,
+    pub(crate) place: EntryPlace,
 }
 
 /// A slot of the table. Its parts stand in an order in which it takes 32 bytes.
@@ -32,9 +32,15 @@ pub(crate) enum Slot {
     /// No key came here.
     Free,
     /// This key came here, and stands nowhere.
-    Gone { key: u64 },
+    Gone {
+        key: u64,
+    },
     /// This key came here, and stands last here, where this place is.
-    Told { at: u32, key: u64, place: Place },
+    Told {
+        at: u32,
+        key: u64,
+        place: EntryPlace,
+    },
 }
 
 const _: () = prove!(size_of::<Slot>() == 32);
@@ -72,7 +78,7 @@ impl Slot {
     }
 
     /// The place where its key stands last, if it does.
-    fn place(self) -> Option<Place>
+    fn place(self) -> Option<EntryPlace>
         ensures { result ≡ place_in self }
     {
         match self {
@@ -146,7 +152,7 @@ impl Table {
     }
 
     /// The place where the key stands last, if it does.
-    pub(crate) fn place(&self, key: u64) -> Option<Place>
+    pub(crate) fn place(&self, key: u64) -> Option<EntryPlace>
         requires homes { 0 < self.now.homes }
         requires slots { self.now.homes ≤ length self.now.slots.items }
 

@@ -8,6 +8,7 @@ use Rattle.std.proofs.lemmas.List.Elements.{filter_map-append}
 use Rattle.std.proofs.lemmas.Nat.{div-add-mod'}
 use Rattle.std.proofs.lemmas.Option.{none-some, slice_get_within, get_or_from_slice_get}
 use Rattle.disk_model.specs.Disk.{Image}
+use Rattle.image_model.specs.declared.entry_place.EntryPlace.{EntryPlace}
 use Rattle.image_model.specs.declared.journal_plan.Plan.{Plan}
 use Rattle.image_model.specs.Cells.{entry_of, last_entry, replayed_entries}
 use Rattle.image_model.specs.Geometry.{Geometry}
@@ -37,7 +38,7 @@ module _ {X Y : Type 0} (f : X → Option Y) (xs : List X) (k : ℕ) (x : X) (th
 
 -- ---- one entry more
 
-module _ (g : Geometry) (entry_at : ℕ × ℕ → Option Entry) (xs : List (ℕ × ℕ)) where
+module _ (g : Geometry) (entry_at : EntryPlace → Option Entry) (xs : List EntryPlace) where
   -- The entry at the place with this number.
   abbrev entry_nr : ℕ → Option Entry
   entry_nr k = option_and_then entry_at (slice_get xs k)
@@ -51,7 +52,7 @@ module _ (g : Geometry) (entry_at : ℕ × ℕ → Option Entry) (xs : List (ℕ
   pub index-none : (newest : ℕ → Option ℕ) → ((b : ℕ) → newest b ≡ None) → IsIndexUpTo 0 newest 0
   index-none newest none = record { each = λ b. ap (option_map entry_nr) (none b); count_ = refl }
 
-  module _ (k : ℕ) (x : ℕ × ℕ) (old new : ℕ → Option ℕ) (count used : ℕ) (there : slice_get xs k ≡ Some x) (before : IsIndexUpTo k old count) where
+  module _ (k : ℕ) (x : EntryPlace) (old new : ℕ → Option ℕ) (count used : ℕ) (there : slice_get xs k ≡ Some x) (before : IsIndexUpTo k old count) where
     -- A place without an entry changes nothing,
     index-skip : entry_at x ≡ None → AddsEntry g k None old new used → IsIndexUpTo (k + 1) new (count + used)
     index-skip none adds =
@@ -93,7 +94,7 @@ module _ (g : Geometry) (entry_at : ℕ × ℕ → Option Entry) (xs : List (ℕ
             ap (option_map entry_nr) told ∙ before.each b ∙ sym (ap (option_map (λ (e : Entry). Some e)) last)
 
   -- One place more.
-  pub index-next : (k : ℕ) (x : ℕ × ℕ) (old new : ℕ → Option ℕ) (count used : ℕ) → slice_get xs k ≡ Some x → 1 ≤ g.shape.spb
+  pub index-next : (k : ℕ) (x : EntryPlace) (old new : ℕ → Option ℕ) (count used : ℕ) → slice_get xs k ≡ Some x → 1 ≤ g.shape.spb
       → ((entry : Entry) → entry_at x ≡ Some entry → entry.sector % g.shape.spb ≡ 0) → AddsEntry g k (entry_nr k) old new used → IsIndexUpTo k old count → IsIndexUpTo (k + 1) new (count + used)
   index-next k x old new count used there wide whole adds before = elim (cases_option (entry_at x)) [
     | inl none ↦ index-skip k x old new count used there before none (subst (λ (o : Option Entry). AddsEntry g k o old new used) (ap (option_and_then entry_at) there ∙ none) adds)
@@ -121,7 +122,7 @@ module _ (g : Geometry) (image : Image) (plan : Plan) (told : walk_of g image �
   pub index_all : IsIndexOf g image newest
   index_all = record {
     each = λ b.
-        ap (λ (xs : List (ℕ × ℕ)). option_map (λ (k : ℕ). option_and_then (entry_of g image) (slice_get xs k)) (newest b)) (counted_places-walk g image plan told)
+        ap (λ (xs : List EntryPlace). option_map (λ (k : ℕ). option_and_then (entry_of g image) (slice_get xs k)) (newest b)) (counted_places-walk g image plan told)
         ∙ is.each b
         ∙ ap (λ (es : List Entry). option_map (λ (e : Entry). Some e) (last_entry g es b)) all_kept;
   }

@@ -2,7 +2,7 @@
 use Rattle.std.proofs.Common.{◌≡◌, ℕ, ◌+◌, ◌-◌, ◌*◌, ◌/◌, ◌<◌, ◌≤◌, sym, ◌∙◌, ap, subst, arith, IsOk, List, length}
 use Rattle.std.proofs.Math.Nat.{mul-le-mul_right}
 use Rattle.disk_model.specs.Disk.{Content, Image, Reads, last_image, sector_in}
-use Rattle.image_model.specs.Cells.{entry_of, replayed_entries, section_bytes}
+use Rattle.image_model.specs.Cells.{entry_of, replayed_entries, section_bytes, entry_place}
 use Rattle.image_model.specs.Geometry.{Geometry, IsGeometry, journal_sectors, section_at, section_sectors}
 use Rattle.image_model.specs.Grid.{walk_of}
 use Rattle.image_model.specs.Section.{entry_at}
@@ -53,7 +53,7 @@ module _ (g : Geometry) (sectors : ℕ) (bytes : List ℕ) (image : Image) (geom
   walk_of-journal = walk_of-same g sectors image (journal_image bytes) geometry has.each
 
   -- its entries,
-  pub entry_of-journal : (i n : ℕ) → i < g.sections → entry_of g image (i, n) ≡ entry_of g (journal_image bytes) (i, n)
+  pub entry_of-journal : (i n : ℕ) → i < g.sections → entry_of g image (entry_place i n) ≡ entry_of g (journal_image bytes) (entry_place i n)
   entry_of-journal i n low =
       let same = bytes_at-same image (journal_image bytes) (section_at g i) (section_sectors g.shape) (λ sector above under.
       let there : section_at g i + (sector - section_at g i) ≡ sector = omega arith in

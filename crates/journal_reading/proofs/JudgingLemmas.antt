@@ -7,6 +7,7 @@ use Rattle.std.proofs.lemmas.List.{take_more, take_all}
 use Rattle.std.proofs.lemmas.List.Elements.{filter_map-append}
 use Rattle.std.proofs.lemmas.Option.{none-some, same_Some, slice_get_within, get_or_from_slice_get}
 use Rattle.disk_model.specs.Disk.{Image}
+use Rattle.image_model.specs.declared.entry_place.EntryPlace.{EntryPlace}
 use Rattle.image_model.specs.declared.journal_plan.Plan.{Plan}
 use Rattle.image_model.specs.declared.scan_fault.ScanFault.{ScanFault}
 use Rattle.image_model.specs.Cells.{block_tag, entry_of}
@@ -59,9 +60,9 @@ module _ {X Y : Type 0} (f : X → Option Y) where
 
 -- ---- one entry
 
-module _ (key salt : Option (List ℕ)) (g : Geometry) (place : ℕ × ℕ) (entry : Entry) where
+module _ (key salt : Option (List ℕ)) (g : Geometry) (place : EntryPlace) (entry : Entry) where
   -- An entry where no block begins,
-  pub entry_fault-block : is_block_start g entry.sector ≡ false → Some (JournalBlock place.0 place.1 entry.sector) ≡ entry_fault key salt g place entry
+  pub entry_fault-block : is_block_start g entry.sector ≡ false → Some (JournalBlock place.section place.entry entry.sector) ≡ entry_fault key salt g place entry
   unfolding entry_fault
   entry_fault-block fails = sym (rw fails refl)
 
@@ -74,16 +75,16 @@ module _ (key salt : Option (List ℕ)) (g : Geometry) (place : ℕ × ℕ) (ent
 
   -- and one with another.
   pub entry_fault-tag : (computed : List ℕ) → is_block_start g entry.sector ≡ true → computed ≡ block_tag key salt g entry.sector entry.bytes → (entry.tag ≡ computed → ⊥)
-      → Some (JournalTag place.0 place.1 entry.tag computed) ≡ entry_fault key salt g place entry
+      → Some (JournalTag place.section place.entry entry.tag computed) ≡ entry_fault key salt g place entry
   unfolding entry_fault
   entry_fault-tag computed starts is differs = elim (cases_Bool (bytes_eq entry.tag (block_tag key salt g entry.sector entry.bytes))) [
     | inl equal ↦ absurd (differs ((bytes_eq-Decides entry.tag (block_tag key salt g entry.sector entry.bytes)).0 equal ∙ sym is))
-    | inr differ ↦ ap (λ (x : List ℕ). Some (JournalTag place.0 place.1 entry.tag x)) is ∙ sym (rw (starts, differ) refl)
+    | inr differ ↦ ap (λ (x : List ℕ). Some (JournalTag place.section place.entry entry.tag x)) is ∙ sym (rw (starts, differ) refl)
   ]
 
 -- ---- an entry that is added
 
-module _ (key salt : Option (List ℕ)) (g : Geometry) (place : ℕ × ℕ) (number : ℕ) (old new : ℕ → Option ℕ) (wide : 1 ≤ g.shape.spb) where
+module _ (key salt : Option (List ℕ)) (g : Geometry) (place : EntryPlace) (number : ℕ) (old new : ℕ → Option ℕ) (wide : 1 ≤ g.shape.spb) where
   -- One that is not refused is of a block of the device.
   stays_inside : (used : ℕ) (o : Option Entry) → option_and_then (entry_fault key salt g place) o ≡ None → AddsEntry g number o old new used → StaysInside g old new used
   stays_inside used None right adds = record {
@@ -107,20 +108,20 @@ module _ (key salt : Option (List ℕ)) (g : Geometry) (place : ℕ × ℕ) (num
   stays_inside_ok o (Err fault) refused added = tt
 
 -- An entry that is judged by the bytes of its section is judged as that of the image.
-pub judged_at : (rule : TagRule) (g : Geometry) (image : Image) (walk : List (ℕ × ℕ)) (number : ℕ) (place : ℕ × ℕ) (section : List ℕ) (at sectors : ℕ) (old new : ℕ → Option ℕ) (result : Result ℕ (CallFault causes.JournalFault))
-    → slice_get (places_of g walk) number ≡ Some place → at ≡ section_at g place.0 → sectors ≡ section_sectors g.shape → section ≡ bytes_at image at sectors
-    → (result ≢ Err Memory → refusal_in result ≡ option_and_then (entry_fault rule.key rule.salt g place) (entry_at g.shape section place.1))
-    → IfOk result (AddsEntry g number (entry_at g.shape section place.1) old new) → IsJudgedAt rule g image walk number old new result
+pub judged_at : (rule : TagRule) (g : Geometry) (image : Image) (walk : List (ℕ × ℕ)) (number : ℕ) (place : EntryPlace) (section : List ℕ) (at sectors : ℕ) (old new : ℕ → Option ℕ) (result : Result ℕ (CallFault causes.JournalFault))
+    → slice_get (places_of g walk) number ≡ Some place → at ≡ section_at g place.section → sectors ≡ section_sectors g.shape → section ≡ bytes_at image at sectors
+    → (result ≢ Err Memory → refusal_in result ≡ option_and_then (entry_fault rule.key rule.salt g place) (entry_at g.shape section place.entry))
+    → IfOk result (AddsEntry g number (entry_at g.shape section place.entry) old new) → IsJudgedAt rule g image walk number old new result
 judged_at rule g image walk number place section at sectors old new result there at_is sectors_is read refused added =
-    let here : entry_at g.shape section place.1 ≡ entry_of g image place =
-    ap (λ (xs : List ℕ). entry_at g.shape xs place.1)
-    (read ∙ ap (λ (n : ℕ). bytes_at image n sectors) at_is ∙ ap (λ (n : ℕ). bytes_at image (section_at g place.0) n) sectors_is) in
+    let here : entry_at g.shape section place.entry ≡ entry_of g image place =
+    ap (λ (xs : List ℕ). entry_at g.shape xs place.entry)
+    (read ∙ ap (λ (n : ℕ). bytes_at image n sectors) at_is ∙ ap (λ (n : ℕ). bytes_at image (section_at g place.section) n) sectors_is) in
     let on : entry_of g image place ≡ entry_on g image walk number = sym (ap (option_and_then (entry_of g image)) there) in
     record {
       refused = λ not_memory not_disk.
           refused not_memory
           ∙ ap (option_and_then (entry_fault rule.key rule.salt g place)) here
-          ∙ sym (ap (option_and_then (λ (x : ℕ × ℕ). option_and_then (entry_fault rule.key rule.salt g x) (entry_of g image x))) there);
+          ∙ sym (ap (option_and_then (λ (x : EntryPlace). option_and_then (entry_fault rule.key rule.salt g x) (entry_of g image x))) there);
       added = subst (λ (o : Option Entry). IfOk result (AddsEntry g number o old new)) (here ∙ on) added;
     }
 
@@ -128,7 +129,7 @@ judged_at rule g image walk number place section at sectors old new result there
 
 module _ (rule : TagRule) (g : Geometry) (image : Image) (plan : Plan) where
   -- Why the entry at a place is refused, if it is used and is.
-  abbrev fault_at : ℕ × ℕ → Option JournalFault
+  abbrev fault_at : EntryPlace → Option JournalFault
   fault_at place = option_and_then (entry_fault rule.key rule.salt g place) (entry_of g image place)
 
   -- None of the first entries is refused, and they are kept.
@@ -140,7 +141,7 @@ module _ (rule : TagRule) (g : Geometry) (image : Image) (plan : Plan) where
   judged-none newest none = record { right = refl; index = index-none g (entry_of g image) (places_of g plan.walk) newest none }
 
   -- The next one is judged.
-  pub judged-next : (k : ℕ) (place : ℕ × ℕ) (old new : ℕ → Option ℕ) (count used : ℕ) (result : Result ℕ (CallFault causes.JournalFault)) → slice_get (places_of g plan.walk) k ≡ Some place → 1 ≤ g.shape.spb
+  pub judged-next : (k : ℕ) (place : EntryPlace) (old new : ℕ → Option ℕ) (count used : ℕ) (result : Result ℕ (CallFault causes.JournalFault)) → slice_get (places_of g plan.walk) k ≡ Some place → 1 ≤ g.shape.spb
       → result ≡ Ok used → IsJudgedAt rule g image plan.walk k old new result → IsJudgedUpTo k old count → IsJudgedUpTo (k + 1) new (count + used)
   judged-next k place old new count used result there wide ok judged before =
       let is = subst (IsJudgedAt rule g image plan.walk k old new) ok judged in
@@ -159,7 +160,7 @@ module _ (rule : TagRule) (g : Geometry) (image : Image) (plan : Plan) where
     fault_of_plan first e = rw walk e
 
     -- Where it is refused the journal is,
-    pub judged-refused : (T : Type 0) (k : ℕ) (place : ℕ × ℕ) (old new : ℕ → Option ℕ) (count : ℕ) (result : Result ℕ (CallFault causes.JournalFault)) (fault : CallFault causes.JournalFault) → slice_get (places_of g plan.walk) k ≡ Some place
+    pub judged-refused : (T : Type 0) (k : ℕ) (place : EntryPlace) (old new : ℕ → Option ℕ) (count : ℕ) (result : Result ℕ (CallFault causes.JournalFault)) (fault : CallFault causes.JournalFault) → slice_get (places_of g plan.walk) k ≡ Some place
         → result ≡ Err fault → fault ≢ Memory → fault ≢ Disk → IsJudgedAt rule g image plan.walk k old new result → IsJudgedUpTo k old count
         → refusal_in {T = T} (Err fault) ≡ journal_fault_of rule.key rule.salt g image
     judged-refused T k place old new count result Memory there err not_memory not_disk judged before = absurd (not_memory refl)
@@ -173,7 +174,7 @@ module _ (rule : TagRule) (g : Geometry) (image : Image) (plan : Plan) where
     judged-right : (k : ℕ) (newest : ℕ → Option ℕ) (count : ℕ) → k ≡ length (places_of g plan.walk) → IsJudgedUpTo k newest count → journal_fault_of rule.key rule.salt g image ≡ None
     judged-right k newest count all judged =
         fault_of_plan None (
-        ap (λ (xs : List (ℕ × ℕ)). slice_get (filter_map fault_at xs) 0) (sym (take_all k (places_of g plan.walk) (omega (arith, all))))
+        ap (λ (xs : List EntryPlace). slice_get (filter_map fault_at xs) 0) (sym (take_all k (places_of g plan.walk) (omega (arith, all))))
         ∙ ap (λ (faults : List JournalFault). slice_get faults 0) judged.right)
 
     pub judged-all : (journal : JudgedJournal) (k : ℕ) → k ≡ length (places_of g plan.walk) → journal.plan ≡ plan → IsGridOf g image (as_grid journal.grid)

@@ -6,8 +6,10 @@ use Rattle.std.proofs.lemmas.List.{get_or_append_left, get_or-append-add}
 use Rattle.std.proofs.lemmas.List.FromFn.{length-range_with_len, get_or-range_with_len, length-map-range_with_len, get_or-map-range_with_len}
 use Rattle.std.proofs.lemmas.Nat.{div-add-mod', div_below}
 use Rattle.std.proofs.lemmas.Option.{same_Some, slice_get-get_or, slice_get_within}
+use Rattle.image_model.specs.declared.entry_place.EntryPlace.{EntryPlace}
 use Rattle.image_model.specs.declared.journal_plan.Plan.{Plan}
 use Rattle.image_model.specs.declared.scan_fault.ScanFault.{ScanFault}
+use Rattle.image_model.specs.Cells.{entry_place, places_in}
 use Rattle.image_model.specs.Geometry.{Geometry, IsGeometry, section_entries, section_sectors}
 use Rattle.image_model.specs.Scan.{Grid, blank_number, blank_plan, numbers_of, scan_fault_of, walk_of_grid}
 use Rattle.image_model.specs.Walk.{is_wholly, later, occurs, plan_by, plan_of, range, reach, sections_of, whole_sections}
@@ -21,34 +23,30 @@ use Rattle.journal_reading.specs.Places.{IsWalk, places_of}
 
 -- ---- the entries of a list of sections
 
--- The places of the entries of one section,
-abbrev row : ℕ → ℕ → List (ℕ × ℕ)
-row entries section = map (λ n. (section, n)) (range_with_len 0 entries)
-
--- and of some.
-abbrev rows : ℕ → List ℕ → List (ℕ × ℕ)
-rows entries sections = flat_map (row entries) sections
+-- The places of the entries of some sections.
+abbrev rows : ℕ → List ℕ → List EntryPlace
+rows entries sections = flat_map (places_in entries) sections
 
 length-rows : (entries : ℕ) (sections : List ℕ) → length (rows entries sections) ≡ length sections * entries
 length-rows entries [] = omega arith
 length-rows entries (x ∷ xs) =
-    let first : length (row entries x) ≡ entries = length-map-range_with_len {X = ℕ × ℕ} (λ n. (x, n)) 0 entries in
-    omega (arith, length-append (row entries x) (rows entries xs), first, length-rows entries xs)
+    let first : length (places_in entries x) ≡ entries = length-map-range_with_len {X = EntryPlace} (entry_place x) 0 entries in
+    omega (arith, length-append (places_in entries x) (rows entries xs), first, length-rows entries xs)
 
-get_or-rows : (entries : ℕ) (sections : List ℕ) (at n : ℕ) (d : ℕ × ℕ) → at < length sections → n < entries
-    → get_or (rows entries sections) (at * entries + n) d ≡ (get_or sections at 0, n)
+get_or-rows : (entries : ℕ) (sections : List ℕ) (at n : ℕ) (d : EntryPlace) → at < length sections → n < entries
+    → get_or (rows entries sections) (at * entries + n) d ≡ entry_place (get_or sections at 0) n
 get_or-rows entries [] at n d low inside = absurd (omega arith)
 get_or-rows entries (x ∷ xs) zero n d low inside =
-    let first : length (row entries x) ≡ entries = length-map-range_with_len {X = ℕ × ℕ} (λ k. (x, k)) 0 entries in
-    let place : 0 * entries + n ≡ n = omega arith in
-    ap (λ (k : ℕ). get_or (row entries x ++ rows entries xs) k d) place
-    ∙ get_or_append_left (row entries x) (rows entries xs) d n (omega arith)
-    ∙ get_or-map-range_with_len {X = ℕ × ℕ} (λ k. (x, k)) 0 entries n n d inside (omega arith)
+    let first : length (places_in entries x) ≡ entries = length-map-range_with_len {X = EntryPlace} (entry_place x) 0 entries in
+    let here : 0 * entries + n ≡ n = omega arith in
+    ap (λ (k : ℕ). get_or (places_in entries x ++ rows entries xs) k d) here
+    ∙ get_or_append_left (places_in entries x) (rows entries xs) d n (omega arith)
+    ∙ get_or-map-range_with_len {X = EntryPlace} (entry_place x) 0 entries n n d inside (omega arith)
 get_or-rows entries (x ∷ xs) (suc at) n d low inside =
-    let first : length (row entries x) ≡ entries = length-map-range_with_len {X = ℕ × ℕ} (λ k. (x, k)) 0 entries in
-    let place : suc at * entries + n ≡ length (row entries x) + (at * entries + n) = omega arith in
-    ap (λ (k : ℕ). get_or (row entries x ++ rows entries xs) k d) place
-    ∙ get_or-append-add (row entries x) (rows entries xs) (at * entries + n) d
+    let first : length (places_in entries x) ≡ entries = length-map-range_with_len {X = EntryPlace} (entry_place x) 0 entries in
+    let behind : suc at * entries + n ≡ length (places_in entries x) + (at * entries + n) = omega arith in
+    ap (λ (k : ℕ). get_or (places_in entries x ++ rows entries xs) k d) behind
+    ∙ get_or-append-add (places_in entries x) (rows entries xs) (at * entries + n) d
     ∙ get_or-rows entries xs at n d (omega arith) inside
 
 -- ---- the sections of a walk
@@ -105,29 +103,29 @@ some_entries (suc entries) sections k under = omega arith
 
 -- The place of one, by its number.
 pub place-at : (g : Geometry) (walk : List (ℕ × ℕ)) (k : ℕ) → k < length (places_of g walk)
-    → slice_get (places_of g walk) k ≡ Some (get_or (sections_of walk) (k / section_entries g.shape) 0, k % section_entries g.shape)
+    → slice_get (places_of g walk) k ≡ Some (entry_place (get_or (sections_of walk) (k / section_entries g.shape) 0) (k % section_entries g.shape))
 place-at g walk k low =
     let entries = section_entries g.shape in
     let many = length-places g walk in
     let some : 0 < entries = some_entries entries (length (sections_of walk)) k (omega arith) in
     let at : k / entries < length (sections_of walk) = div_below k entries (length (sections_of walk)) some (omega arith) in
     let is : k / entries * entries + k % entries ≡ k = div-add-mod' k entries in
-    slice_get-get_or (places_of g walk) k (0, 0) low
-    ∙ ap (λ (m : ℕ). Some (get_or (places_of g walk) m (0, 0))) (sym is)
-    ∙ ap (λ (x : ℕ × ℕ). Some x) (get_or-rows entries (sections_of walk) (k / entries) (k % entries) (0, 0) at (omega arith))
+    slice_get-get_or (places_of g walk) k (entry_place 0 0) low
+    ∙ ap (λ (m : ℕ). Some (get_or (places_of g walk) m (entry_place 0 0))) (sym is)
+    ∙ ap (λ (x : EntryPlace). Some x) (get_or-rows entries (sections_of walk) (k / entries) (k % entries) (entry_place 0 0) at (omega arith))
 
 -- It is a place in the journal.
-pub place-inside : (g : Geometry) (walk : List (ℕ × ℕ)) (k : ℕ) (place : ℕ × ℕ) → IsWalk g.sections walk
-    → slice_get (places_of g walk) k ≡ Some place → (place.0 < g.sections) × (place.1 < section_entries g.shape)
-place-inside g walk k place is there =
+pub place-inside : (g : Geometry) (walk : List (ℕ × ℕ)) (k : ℕ) (at : EntryPlace) → IsWalk g.sections walk
+    → slice_get (places_of g walk) k ≡ Some at → (at.section < g.sections) × (at.entry < section_entries g.shape)
+place-inside g walk k found is there =
     let entries = section_entries g.shape in
-    let low = slice_get_within (places_of g walk) k place there in
+    let low = slice_get_within (places_of g walk) k found there in
     let many = length-places g walk in
     let some : 0 < entries = some_entries entries (length (sections_of walk)) k (omega arith) in
     let at : k / entries < length (sections_of walk) = div_below k entries (length (sections_of walk)) some (omega arith) in
     let same = same_Some _ _ (sym there ∙ place-at g walk k low) in
-    let section = ap (λ (x : ℕ × ℕ). x.0) same in
-    let entry = ap (λ (x : ℕ × ℕ). x.1) same in
+    let section = ap (λ (x : EntryPlace). x.section) same in
+    let entry = ap (λ (x : EntryPlace). x.entry) same in
     let inside = inside_of (sections_of walk) (ap sections_of is.is) (k / entries) at in
     (omega arith, omega arith)
   where

@@ -2,13 +2,14 @@
 -- Own: the newest entry of a block is the last one that is replayed for it.
 use Rattle.std.specs.Prelude.{◌≡◌, ℕ, ◌/◌, ◌==◌, List, if◌then◌else◌, Option, Some, None, option_and_then, option_map, is_some, slice_get}
 use Rattle.disk_model.specs.Disk.{Image}
+use Rattle.image_model.specs.declared.entry_place.EntryPlace.{EntryPlace}
 use Rattle.image_model.specs.Cells.{counted_sections, entry_of, entry_places, last_entry, replayed_entries}
 use Rattle.image_model.specs.Geometry.{Geometry}
 use Rattle.image_model.specs.Grid.{walk_of}
 use Rattle.image_model.specs.Section.{Entry}
 
 -- The places of the sections that count, in the order of the replay.
-abbrev pub counted_places : Geometry → Image → List (ℕ × ℕ)
+abbrev pub counted_places : Geometry → Image → List EntryPlace
 counted_places g image = entry_places g (counted_sections (walk_of g image))
 
 -- The entry at the place with this number, if one stands there.

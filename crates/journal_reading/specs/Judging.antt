@@ -2,6 +2,7 @@
 use Rattle.std.specs.Prelude.{◌≡◌, ◌≢◌, ℕ, ◌≤◌, ◌<◌, IfOk, List, Option, Some, option_and_then, slice_get, Result, Err}
 use Rattle.disk_model.specs.Disk.{Content, Image, last_image}
 use Rattle.disk_model.specs.Moments.{HasNow}
+use Rattle.image_model.specs.declared.entry_place.EntryPlace.{EntryPlace}
 use Rattle.image_model.specs.Cells.{entry_of}
 use Rattle.image_model.specs.Geometry.{Geometry}
 use Rattle.image_model.specs.Openable as model
@@ -29,15 +30,15 @@ fault_on rule g image walk number =
 -- ---- by the bytes of its section
 
 -- Why the entry at a place is refused, by the bytes of its section, if it is used and is.
-abbrev pub fault_in_section : TagRule → Geometry → (place : ℕ × ℕ) → (section : List ℕ) → Option model.JournalFault
+abbrev pub fault_in_section : TagRule → Geometry → (place : EntryPlace) → (section : List ℕ) → Option model.JournalFault
 fault_in_section rule g place section =
-    option_and_then (entry_fault rule.key rule.salt g place) (entry_at g.shape section place.1)
+    option_and_then (entry_fault rule.key rule.salt g place) (entry_at g.shape section place.entry)
 
 -- It was added with this number, if it is used; `used` tells how many were, one or none.
-abbrev pub AddsInSection : Geometry → (number : ℕ) → (place : ℕ × ℕ) → (section : List ℕ)
+abbrev pub AddsInSection : Geometry → (number : ℕ) → (place : EntryPlace) → (section : List ℕ)
     → (old new : List (ℕ × ℕ)) → (used : ℕ) → Type 0
 AddsInSection g number place section old new =
-    AddsEntry g number (entry_at g.shape section place.1) (newest_in old) (newest_in new)
+    AddsEntry g number (entry_at g.shape section place.entry) (newest_in old) (newest_in new)
 
 -- ---- on an image
 

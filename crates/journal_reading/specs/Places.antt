@@ -1,5 +1,6 @@
 -- The places of the entries of the sections that count, in the order of the replay.
 use Rattle.std.specs.Prelude.{◌≡◌, ℕ, ◌≤◌, List, [], ◌∷◌}
+use Rattle.image_model.specs.declared.entry_place.EntryPlace.{EntryPlace}
 use Rattle.image_model.specs.Cells.{entry_places}
 use Rattle.image_model.specs.Geometry.{Geometry}
 use Rattle.image_model.specs.Walk.{sections_of}
@@ -15,5 +16,5 @@ pub record IsWalk (sections : ℕ) (walk : List (ℕ × ℕ)) : Type 0 where
   pub second_end : second.1 ≤ sections
 
 -- The places of the entries of these sections, used or not.
-abbrev pub places_of : Geometry → List (ℕ × ℕ) → List (ℕ × ℕ)
+abbrev pub places_of : Geometry → List (ℕ × ℕ) → List EntryPlace
 places_of g walk = entry_places g (sections_of walk)

@@ -8,8 +8,7 @@ ghost use Rattle.journal_reading.specs.Entries.{entry_with};
 ghost use Rattle.journal_reading.specs.Journal.{journal_image};
 
 use commit_id::Shape;
-use image_model::{META_SECTORS, SECTOR_SIZE};
-use journal_overlay::Place;
+use image_model::{EntryPlace, META_SECTORS, SECTOR_SIZE};
 use journal_section::{EntryView, block_bytes, entry};
 use layout::Geometry;
 
@@ -19,7 +18,7 @@ use layout::Geometry;
 pub fn read_entry(
     geometry: &Geometry,
     bytes: &[u8],
-    place: Place,
+    place: EntryPlace,
     block: &mut [u8],
 ) -> Option<EntryView>
     requires geometry { IsGeometry geometry.now (2 ^ 48) }
@@ -29,7 +28,7 @@ pub fn read_entry(
     requires block { length block.old ≡ 512 * geometry.now.shape.spb }
 
     ensures entry { option_map (entry_with block.new) result
-        ≡ entry_of geometry.now (journal_image bytes.now) (place.section, place.entry) }
+        ≡ entry_of geometry.now (journal_image bytes.now) place }
     ensures tag { IfSome result (λ view. length view.tag ≡ geometry.now.shape.tag_size) }
 {
     let section = section_in(geometry, bytes, place.section);

@@ -24,9 +24,8 @@ use crate::places::{Walk, entry_count, entry_place};
 use crate::reading::JudgedJournal;
 use commit_id::{Grid, Plan};
 use hmac_tag::TagMaker;
-use image_model::{LARGEST_BLOCK, SECTOR_SIZE};
+use image_model::{EntryPlace, LARGEST_BLOCK, SECTOR_SIZE};
 use image_refusal::{CallFault, JournalFault};
-use journal_overlay::Place;
 use journal_section::EntryView;
 use layout::Geometry;
 use sector_disk::Disk;
@@ -156,7 +155,7 @@ fn judge_entry(
     geometry: &Geometry,
     maker: &TagMaker,
     section: &[u8],
-    place: Place,
+    place: EntryPlace,
     number: u64,
     block: &mut [u8],
     newest: &mut NewestEntries,
@@ -167,11 +166,11 @@ fn judge_entry(
     requires entry { place.entry < section_entries geometry.now.shape }
     requires block { length block.old ≡ 512 * geometry.now.shape.spb }
 
-    ensures added { IfOk result (AddsInSection geometry.now number (place.section, place.entry) section.now
+    ensures added { IfOk result (AddsInSection geometry.now number place section.now
         newest.old newest.new) }
 
     ensures refused { result ≢ Err CallFault.Memory → refusal_in result
-        ≡ fault_in_section maker.now geometry.now (place.section, place.entry) section.now }
+        ≡ fault_in_section maker.now geometry.now place section.now }
     ensures disk { result ≢ Err CallFault.Disk }
 {
     let Some(view) = read_in_section(geometry, section, place.entry, block) else {
@@ -200,16 +199,16 @@ fn is_block_start(geometry: &Geometry, sector: u64) -> bool
 fn judge_view(
     geometry: &Geometry,
     maker: &TagMaker,
-    place: Place,
+    place: EntryPlace,
     view: &EntryView,
     block: &[u8],
 ) -> Result<(), JournalFault>
     requires { maker.now.size ≡ geometry.now.shape.tag_size }
 
     ensures { fault_in result ≡ entry_fault maker.now.key maker.now.salt geometry.now
-        (place.section, place.entry) (entry_with block.now view.now) }
+        place (entry_with block.now view.now) }
 {
-    let Place { section, entry } = place;
+    let EntryPlace { section, entry } = place;
     let sector = view.sector;
     if !is_block_start(geometry, sector) {
         return Err(JournalFault::JournalBlock {

@@ -3,7 +3,7 @@ ghost use Rattle.std.specs.Prelude.{◌≡◌, ◌^◌, ◌<◌, length, slice_g
 ghost use Rattle.image_model.specs.Geometry.{IsGeometry};
 ghost use Rattle.journal_reading.specs.Places.{IsWalk, places_of};
 
-use journal_overlay::Place;
+use image_model::EntryPlace;
 use layout::Geometry;
 
 /// The sections that count, in two ranges, each from its first section to the one after its last.
@@ -21,12 +21,12 @@ pub fn entry_count(geometry: &Geometry, walk: &Walk) -> u64
 }
 
 /// The place of one of these: they are in the order of the sections, and in each of their numbers.
-pub fn entry_place(geometry: &Geometry, walk: &Walk, k: u64) -> Place
+pub fn entry_place(geometry: &Geometry, walk: &Walk, k: u64) -> EntryPlace
     requires geometry { IsGeometry geometry.now (2 ^ 48) }
     requires walk { IsWalk geometry.now.sections walk.now }
     requires k { k < length (places_of geometry.now walk.now) }
 
-    ensures { slice_get (places_of geometry.now walk.now) k ≡ Some (result.section, result.entry) }
+    ensures { slice_get (places_of geometry.now walk.now) k ≡ Some result }
 {
     let [(first, first_end), (second, _)] = *walk;
     let entries = geometry.shape().entries;
@@ -37,7 +37,7 @@ pub fn entry_place(geometry: &Geometry, walk: &Walk, k: u64) -> Place
     } else {
         second + (at - count)
     };
-    Place {
+    EntryPlace {
         section,
         entry: k % entries,
     }

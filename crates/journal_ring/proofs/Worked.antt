@@ -2,7 +2,7 @@
 use Rattle.std.proofs.Common.{◌≡◌, ℕ, true, false, [], ◌∷◌, Some, None, refl}
 use Rattle.image_model.specs.Geometry.{Geometry}
 use Rattle.image_model.specs.Section.{Entry}
-use Rattle.journal_overlay.specs.declared.place.Place.{Place}
+use Rattle.image_model.specs.declared.entry_place.EntryPlace.{EntryPlace}
 use Rattle.journal_model.specs.Ring.{JournalRing}
 use Rattle.journal_ring.specs.declared.marks.Marks.{Marks}
 use Rattle.journal_ring.specs.Sections.{wrap, filled}
@@ -86,11 +86,11 @@ is_free-behind_the_opened : is_free round_the_end 1 ≡ true
 is_free-behind_the_opened = refl
 
 -- The next entry stands behind those of the last section,
-next_place-last_section : next_place round_the_end ≡ (let place : Place = record { section = 0; entry = 2 } in place)
+next_place-last_section : next_place round_the_end ≡ (let place : EntryPlace = record { section = 0; entry = 2 } in place)
 next_place-last_section = refl
 
 -- or first in the next section where that is closed.
-next_place-next_section : next_place (with_section round_the_end) ≡ (let place : Place = record { section = 1; entry = 0 } in place)
+next_place-next_section : next_place (with_section round_the_end) ≡ (let place : EntryPlace = record { section = 1; entry = 0 } in place)
 next_place-next_section = refl
 
 -- A batch ends where the journal does.

@@ -3,7 +3,7 @@ use Rattle.std.specs.Prelude.{ℕ, ◌+◌, ◌-◌, ◌*◌, ◌==◌, ltb, leb
 use Rattle.image_model.specs.Geometry.{Geometry}
 use Rattle.image_model.specs.Section.{Entry}
 use Rattle.journal_model.specs.Ring.{JournalRing}
-use Rattle.journal_overlay.specs.declared.place.Place.{Place}
+use Rattle.image_model.specs.declared.entry_place.EntryPlace.{EntryPlace}
 use Rattle.journal_ring.specs.Sections.{wrap}
 
 -- The entry of a block with these bytes and this tag.
@@ -17,7 +17,7 @@ last_of (x ∷ []) = x
 last_of (x ∷ y ∷ sections) = last_of (y ∷ sections)
 
 -- The place of the next entry in the last section.
-abbrev pub next_place : JournalRing → Place
+abbrev pub next_place : JournalRing → EntryPlace
 next_place ring = record {
   section = wrap ring.geometry.sections (ring.next + (length ring.opened - 1));
   entry = length (last_of ring.opened);

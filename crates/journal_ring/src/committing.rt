@@ -33,6 +33,7 @@ pub(crate) fn write_batch<D: Disk>(
     ensures cause { HasCause (D.faults disk.old) (D.faults disk.new) result }
 
     ensures identity { D.identity disk.new ≡ D.identity disk.old }
+    ensures unread { D.reads disk.new ≡ D.reads disk.old }
 
     ensures moments { EachSince (OnlyAdds (IsOfRun at (batch_in pool.old from count)))
         (D.moments disk.old) (D.moments disk.new) }

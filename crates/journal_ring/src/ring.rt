@@ -17,7 +17,7 @@ use crate::pieces::Pieces;
 use crate::room::RingRoom;
 use commit_id::Shape;
 use hmac_tag::Tag;
-use journal_overlay::Place;
+use image_model::EntryPlace;
 use journal_section::{EntryView, block_bytes, entry};
 use sector_disk::{Disk, Failed};
 use sector_pool::Run;
@@ -105,7 +105,7 @@ impl<'p> Ring<'p> {
     /// # Errors
     ///
     /// - `NoRoom`: no section is open, and the next one is not free. Nothing is changed.
-    pub fn put(&mut self, block: u64, bytes: &[u8], tag: &Tag) -> Result<Place, NoRoom>
+    pub fn put(&mut self, block: u64, bytes: &[u8], tag: &Tag) -> Result<EntryPlace, NoRoom>
         requires block { block * self.old.geometry.shape.spb < 2 ^ 48 }
         requires bytes { length bytes.now ≡ 512 * self.old.geometry.shape.spb }
         requires tag { length tag.now ≡ self.old.geometry.shape.tag_size }
@@ -123,7 +123,7 @@ impl<'p> Ring<'p> {
     }
 
     /// What an entry of the ring tells beside its block's bytes.
-    pub fn view(&self, place: Place) -> EntryView
+    pub fn view(&self, place: EntryPlace) -> EntryView
         requires section { place.section < self.now.geometry.sections }
         requires entry { place.entry < length (entries_at self.now place.section) }
 
@@ -139,7 +139,7 @@ impl<'p> Ring<'p> {
     }
 
     /// Puts the bytes of an entry's block into `out`.
-    pub fn content(&self, place: Place, out: &mut [u8])
+    pub fn content(&self, place: EntryPlace, out: &mut [u8])
         requires section { place.section < self.now.geometry.sections }
         requires entry { place.entry < length (entries_at self.now place.section) }
         requires out { length out.old ≡ 512 * self.now.geometry.shape.spb }
@@ -154,7 +154,7 @@ impl<'p> Ring<'p> {
     }
 
     /// Whether the section of an entry is committed.
-    pub fn committed(&self, place: Place) -> bool
+    pub fn committed(&self, place: EntryPlace) -> bool
         requires section { place.section < self.now.geometry.sections }
 
         ensures { result ≡ is_committed self.now place.section }
@@ -290,7 +290,7 @@ impl<'p> Ring<'p> {
     }
 
     /// Puts an entry into the last section, which is open.
-    fn put_last(&mut self, sector: u64, bytes: &[u8], tag: &Tag) -> Place
+    fn put_last(&mut self, sector: u64, bytes: &[u8], tag: &Tag) -> EntryPlace
         requires open { has_open_section self.old ≡ true }
         requires sector { sector < 2 ^ 48 }
         requires bytes { length bytes.now ≡ 512 * self.old.geometry.shape.spb }
@@ -311,7 +311,7 @@ impl<'p> Ring<'p> {
         let entry = self.counts[section as usize];
         self.pool.put(section, entry, sector, bytes, tag);
         self.counts[section as usize] = entry + 1;
-        Place { section, entry }
+        EntryPlace { section, entry }
     }
 
     /// Whether the section behind the last one is free.
@@ -362,6 +362,7 @@ impl<'p> Ring<'p> {
         ensures err { OnErr result (self.new ≡ self.old) }
 
         ensures identity { D.identity disk.new ≡ D.identity disk.old }
+        ensures unread { D.reads disk.new ≡ D.reads disk.old }
 
         ensures cuts { (d : JournaledDisk) → IsRingOf self.old d → HasNow (StandsFor d) (D.moments disk.old)
             → EachMoment (D.moments disk.old) (D.moments disk.new)

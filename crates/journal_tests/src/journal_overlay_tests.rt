@@ -1,7 +1,7 @@
 //! Places that are added and dropped.
 ghost use Rattle.std.specs.Prelude.{◌<◌};
 
-use journal_overlay::{Memory, Overlay, Place};
+use journal_overlay::{EntryPlace, Memory, Overlay};
 use std::alloc::Global;
 use std::process::Abort;
 use std::test::Fail;
@@ -11,7 +11,7 @@ fn three_sections(alloc: Global) -> Result<Overlay, Memory> {
     let mut overlay = Overlay::with_capacity(alloc, 8)?;
     for (block, section, entry) in [(5, 1, 0), (6, 1, 1), (5, 2, 0), (7, 2, 1), (5, 3, 0)] {
         if overlay.spare() >= 1 {
-            overlay.add(block, Place { section, entry });
+            overlay.add(block, EntryPlace { section, entry });
         }
     }
     Ok(overlay)
@@ -19,11 +19,11 @@ fn three_sections(alloc: Global) -> Result<Overlay, Memory> {
 
 #[test]
 fn an_older_place_is_the_newest_again(rt: HostRuntime) -> Result<(), Fail> {
-    let first = Place {
+    let first = EntryPlace {
         section: 1,
         entry: 0,
     };
-    let last = Place {
+    let last = EntryPlace {
         section: 3,
         entry: 0,
     };
@@ -33,7 +33,7 @@ fn an_older_place_is_the_newest_again(rt: HostRuntime) -> Result<(), Fail> {
         (2, last, 5),
         (
             3,
-            Place {
+            EntryPlace {
                 section: 2,
                 entry: 0,
             },

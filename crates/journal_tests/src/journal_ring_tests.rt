@@ -4,7 +4,7 @@ ghost use Rattle.disk_model.specs.Identity.{IsBound};
 ghost use Rattle.image_model.specs.Geometry.{initial};
 
 use hmac_tag::Tag;
-use journal_overlay::Place;
+use image_model::EntryPlace;
 use journal_ring::{Moved, Ring, RingRoom};
 use journal_section::number;
 use layout::Geometry;
@@ -64,7 +64,7 @@ fn ring_at<'p>(
 }
 
 /// Puts a block of one byte, with a tag of the same. None where there is no room.
-fn put(ring: &mut Ring<'_>, block: u64, byte: u8) -> Result<Option<Place>, Fail>
+fn put(ring: &mut Ring<'_>, block: u64, byte: u8) -> Result<Option<EntryPlace>, Fail>
     ensures { ring.new.geometry ≡ ring.old.geometry }
 {
     let shape = ring.shape();
@@ -98,12 +98,12 @@ fn state_of(ring: &Ring<'_>, section: u64) -> Option<(bool, u64)> {
 }
 
 /// Whether the section of an entry is one of the ring's, and committed.
-fn is_committed(ring: &Ring<'_>, place: Place) -> bool {
+fn is_committed(ring: &Ring<'_>, place: EntryPlace) -> bool {
     place.section < ring.sections() && ring.committed(place)
 }
 
 /// Whether an entry is of this block, and all its bytes and its tag's are this one.
-fn holds(ring: &Ring<'_>, place: Place, block: u64, byte: u8) -> bool {
+fn holds(ring: &Ring<'_>, place: EntryPlace, block: u64, byte: u8) -> bool {
     let mut out = [0; 512];
     if ring.shape().spb != 1 || place.section >= ring.sections() {
         return false;
@@ -137,7 +137,7 @@ fn free_oldest(ring: &mut Ring<'_>) -> bool
     let Some(section) = ring.oldest() else {
         return false;
     };
-    if section >= ring.sections() || !ring.committed(Place { section, entry: 0 }) {
+    if section >= ring.sections() || !ring.committed(EntryPlace { section, entry: 0 }) {
         return false;
     }
     ring.free(section);
@@ -182,7 +182,7 @@ fn entries_are_read_as_they_were_put(rt: HostRuntime) -> Result<(), Fail> {
         let place = put(&mut ring, 10 + k, b'a' + k as u8)?.ok_or("no room")?;
         assert!(rt;
             place
-                == Place {
+                == EntryPlace {
                     section: 3,
                     entry: k
                 }
@@ -192,7 +192,7 @@ fn entries_are_read_as_they_were_put(rt: HostRuntime) -> Result<(), Fail> {
         assert!(rt;
             holds(
                 &ring,
-                Place {
+                EntryPlace {
                     section: 3,
                     entry: k
                 },
@@ -206,7 +206,7 @@ fn entries_are_read_as_they_were_put(rt: HostRuntime) -> Result<(), Fail> {
     assert!(rt;
         !is_committed(
             &ring,
-            Place {
+            EntryPlace {
                 section: 3,
                 entry: 0
             }
@@ -232,7 +232,7 @@ fn a_batch_ends_where_the_journal_does(rt: HostRuntime) -> Result<(), Fail> {
     let place = put(&mut ring, 5, b'y')?.ok_or("no room")?;
     assert!(rt;
         place
-            == Place {
+            == EntryPlace {
                 section: 1,
                 entry: 0
             }

@@ -13,7 +13,7 @@ ghost use Rattle.commit_id.specs.Shape.{as_shape, IsShape};
 use crate::layout::Layout;
 use crate::regions::{bitmap_sectors_for, fitting_log2_region, region_of, regions_for};
 use commit_id::Shape;
-use image_model::{GeomFault, Super};
+use image_model::{BytePlace, GeomFault, Super};
 use std::marker::Model;
 
 /// Where all that an image has lies on its disk.
@@ -135,7 +135,7 @@ impl Geometry {
     /// the next sector.
     ///
     /// Source: Linux, `drivers/md/dm-integrity.c`, `get_metadata_sector_and_offset`.
-    pub fn tag_at(&self, block: u64) -> (u64, u64)
+    pub fn tag_at(&self, block: u64) -> BytePlace
         requires block { block < self.now.blocks }
 
         ensures { result ≡ tag_at self.now block }

@@ -9,8 +9,8 @@ ghost use Rattle.layout.specs.Layout.{as_geometry, FitsADisk, IsLayout, IsWithin
 use crate::regions::bitmap_sectors_for;
 use commit_id::Shape;
 use image_model::{
-    DIRTY_BITMAP, FIXED_PADDING, GeomFault, MOST_JOURNAL_SECTORS, MOST_SECTORS, SECTOR_SIZE,
-    SUPERBLOCK_SECTORS, Super,
+    BytePlace, DIRTY_BITMAP, FIXED_PADDING, GeomFault, MOST_JOURNAL_SECTORS, MOST_SECTORS,
+    SECTOR_SIZE, SUPERBLOCK_SECTORS, Super,
 };
 
 /// What the tags of an area take a multiple of under `FIXED_PADDING`, in bytes.
@@ -185,7 +185,7 @@ impl Layout {
 
     /// The sector of the disk where the tag of a block begins, and the byte in it.
     #[tactic(auto, unfolding(image_model::specs::Geometry::tag_at, image_model::specs::Geometry::tag_offset))]
-    pub(crate) fn tag_at(self, block: u64) -> (u64, u64)
+    pub(crate) fn tag_at(self, block: u64) -> BytePlace
         requires layout { FitsADisk self }
         requires block { block < self.blocks }
 
@@ -195,7 +195,10 @@ impl Layout {
         let byte = sector % self.interleave / self.shape.spb * self.shape.tag;
         let area = self.area_at(sector / self.interleave);
         let sector_size = SECTOR_SIZE as u64;
-        (area + byte / sector_size, byte % sector_size)
+        BytePlace {
+            sector: area + byte / sector_size,
+            byte: byte % sector_size,
+        }
     }
 
     /// The most sectors, a multiple of 8, that have their data on a disk of so many: those of whole

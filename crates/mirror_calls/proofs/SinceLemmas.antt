@@ -1,7 +1,8 @@
 -- What is left of a leg at each moment of requests one after the other.
 use Rattle.std.proofs.Common.{◌≡◌, false, ℕ, zero, suc, ◌+◌, List, [], ◌∷◌, ◌++◌, length, take, refl, sym, ◌∙◌, ap, subst, arith}
 use Rattle.disk_model.specs.Disk.{Content, EachImage, Image}
-use Rattle.disk_model.proofs.MomentsLemmas.{EachMoment-kept, EachMoment-then, EachMoment-weaker}
+use Rattle.disk_model.specs.Moments.{HasNow}
+use Rattle.disk_model.proofs.MomentsLemmas.{EachMoment-kept, EachMoment-then, EachMoment-weaker, content_at_end}
 use Rattle.device_model.specs.History.{Change, History, with_change, with_changes}
 use Rattle.std.proofs.lemmas.List.{take_all}
 use Rattle.device_model.specs.Request.{Write}
@@ -81,3 +82,8 @@ pub IsLeftSince-mend : (P : History → Image → Type 0) (h : History) (ticket 
 IsLeftSince-mend P h ticket block size x changes {before} {between} {after} long is reads writes =
     IsLeftSince-write P h ticket block x changes is reads
     (subst (λ (l : List ℕ). IsLeftSince P h (request_changes ticket (Write block (l ∷ []) false)) between after) (one_block size x long) writes)
+
+-- What stood before is left by none of them.
+pub IsLeftSince-now : (P : History → Image → Type 0) (h : History) (changes : List Change) {before after : List Content} → HasNow (EachImage (P h)) before
+    → IsLeftSince P h changes before after → HasNow (IsLeftWithin P h changes) after
+IsLeftSince-now P h changes first since = content_at_end since (λ c now. record { made = 0; left = first c now })

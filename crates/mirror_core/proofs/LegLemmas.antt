@@ -5,6 +5,7 @@ use Rattle.disk_model.specs.Moments.{EachMoment}
 use Rattle.disk_model.proofs.MomentsLemmas.{EachMoment-weaker}
 use Rattle.device_model.specs.History.{Change, History, Tagger, with_changes}
 use Rattle.device_model.specs.Mode as Modes
+use Rattle.device_model.specs.Device as Kinds
 use Rattle.device_model.specs.Request.{Request}
 use Rattle.device_model.specs.Submission.{Submission}
 use Rattle.device_model.specs.Transcript.{BlockFormat}
@@ -16,7 +17,6 @@ use Rattle.request_slots.specs.declared.reply.Reply.{Reply}
 use Rattle.device_parts.specs.Device.{Standing}
 use Rattle.device.specs.declared.mode.DeviceParts.{DeviceParts}
 use Rattle.device.specs.Device.{kind_by, kind_of}
-use Rattle.device.specs.Run as Run
 use Rattle.device.specs.Run.{standing_behind}
 use Rattle.mirror_calls.specs.Leg.{IsLeftWithin, LegOn, write_of}
 use Rattle.mirror_core.specs.Since.{IsSince}
@@ -101,7 +101,7 @@ module _ (parts : DeviceParts) (a : List Content) (on : LegOn) (told : History) 
   pub stands_leaves : (b : List Content) → LeavesWhole w sub a b
       → EachMoment a b (IsLeftWithin (MayBeLeftOf on) told (request_changes n request))
   stands_leaves b leaves =
-      EachMoment-weaker (λ (c : Content) (is : Run.IsLeftWithin (kind_of w) w.entry w.state.history (changes_on sub w) c). record {
+      EachMoment-weaker (λ (c : Content) (is : Kinds.IsLeftWithin (kind_of w) w.entry w.state.history (changes_on sub w) c). record {
         made = is.made;
         left = λ image of.
             left_behind parts a on told stands (take is.made (changes_on sub w)) (take is.made (request_changes n request)) image

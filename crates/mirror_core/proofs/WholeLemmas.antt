@@ -25,7 +25,8 @@ use Rattle.device_parts.specs.Device.{Answers, HasDone, IsDone, Standing}
 use Rattle.device.specs.declared.mode.DeviceParts.{DeviceParts}
 use Rattle.device.specs.Calls.{Submits, refusal_to}
 use Rattle.device.specs.Device.{IsDevice, any_mode, kind_of}
-use Rattle.device.specs.Run.{HasFailed, HasRun, IsLeftWithin, all_turns, standing_behind}
+use Rattle.device.specs.Run.{HasFailed, HasRun, all_turns, standing_behind}
+use Rattle.device_model.specs.Device.{IsLeftWithin}
 use Rattle.device.proofs.RunLemmas.{failed_then, failed_wider, run_one, run_then}
 use Rattle.device.proofs.TagsLemmas.{leaves_all}
 use Rattle.mirror_laws.specs.WholeLaws.{RunsWhole}

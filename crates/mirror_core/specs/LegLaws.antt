@@ -10,7 +10,7 @@ use Rattle.place_model.specs.Opened.{blocks_of}
 use Rattle.device_parts.specs.declared.condition.Condition.{Condition}
 use Rattle.device_parts.specs.declared.condition.Condition.TheVariants.{Working}
 use Rattle.device_parts.specs.Device.{Standing, opened_standing}
-use Rattle.image_judging.specs.declared.consent.Consent.{Consent}
+use Rattle.judging_model.specs.declared.consent.Consent.{Consent}
 use Rattle.device.specs.Calls.{Works}
 use Rattle.device.specs.Device.{mode_of}
 use Rattle.device.specs.declared.mode.DeviceParts.{DeviceParts}

@@ -15,7 +15,8 @@ use Rattle.request_slots.specs.InFlight.{as_reply, returned_in}
 use Rattle.device_parts.specs.Device.{Standing}
 use Rattle.device.specs.declared.mode.DeviceParts.{DeviceParts}
 use Rattle.device.specs.Device.{kind_of}
-use Rattle.device.specs.Run.{IsLeftWithin, standing_behind}
+use Rattle.device.specs.Run.{standing_behind}
+use Rattle.device_model.specs.Device.{IsLeftWithin}
 use Rattle.mirror_core.specs.Stands.{RestsAs}
 
 abbrev pub whole_of : Submission → Standing → List Event

@@ -1,6 +1,11 @@
 //! A device in journal mode as a leg of a mirror.
 ghost use Rattle.std.specs.Prelude.{◌≡◌};
+ghost use Rattle.disk_model.specs.Disk.{EachImage};
+ghost use Rattle.disk_model.specs.Moments.{HasNow};
+ghost use Rattle.device_model.specs.Transcript.{Session};
+ghost use Rattle.mirror_calls.specs.Leg.{LegOn};
 ghost use Rattle.mirror_core.specs.Answered.{IsOfRead, IsOfWrite, IsReadAs};
+ghost use Rattle.mirror_core.specs.declared.device_leg.DeviceLeg.{DeviceLeg};
 ghost use Rattle.mirror_core.specs.Stands.{IsLeg, MayBeLeftOf, StandsFor};
 
 use crate::running::run_whole;
@@ -75,6 +80,12 @@ impl<'d, 'p, D: Disk> Leg for DeviceLeg<'d, 'p, D> {
         let _reply = run_whole(&mut self.device, Request::Flush)?;
         Ok(())
     }
+
+    fn legs_are_left_as_told()
+        ensures { (leg : DeviceLeg D) (on : LegOn) (s : Session)
+            → StandsFor leg.device.parts (D.moments leg.device.disk.now) on s.history
+            → HasNow (EachImage (MayBeLeftOf on s.history)) (D.moments leg.device.disk.now) }
+    {}
 
     ghost few_blocks = { λ leg ready. ready.few };
 

@@ -13,4 +13,4 @@ mod running;
 pub use device_leg::DeviceLeg;
 pub use image_laws::{images_are_twins, images_keep_what_is_flushed, pairs_of_images_are_kept};
 pub use leg_laws::{devices_are_legs, legs_are_left_as_told, legs_stand};
-pub use mirror::{Mirror, close, mirror_of};
+pub use mirror::{Mirror, close, give_back, mirror_of};

@@ -96,3 +96,16 @@ pub fn close<'a, 'b, 'p, 'q, D: Disk, E: Disk>(
     }
     close_legs(a, b)
 }
+
+/// Gives both disks back as they are, without a close.
+pub fn give_back<'a, 'b, 'p, 'q, D: Disk, E: Disk>(
+    mirror: Mirror<'a, 'b, 'p, 'q, D, E>,
+) -> (&'a mut D, &'b mut E)
+    ensures same_disk { result.0.ghost_name ≡ mirror.entry.a.device.disk.ghost_name }
+    ensures same_second { result.1.ghost_name ≡ mirror.entry.b.device.disk.ghost_name }
+    ensures disk { result.0.now ≡ mirror.entry.a.device.disk.now }
+    ensures second { result.1.now ≡ mirror.entry.b.device.disk.now }
+{
+    let (a, b, _) = mirror.into_legs();
+    (a.device.give_back(), b.device.give_back())
+}

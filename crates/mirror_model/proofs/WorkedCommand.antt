@@ -11,10 +11,9 @@ use Rattle.device_model.specs.Mode.{Journal}
 use Rattle.device_model.specs.Progress.{opened_device}
 use Rattle.mirror_model.specs.Calls.{LevelCall, call_changes}
 use Rattle.run_model.specs.CommandRun.{IsOfDevice, IsUntouched}
-use Rattle.run_model.specs.Ending.{Refused, ByImage}
+use Rattle.run_model.specs.Ending.{Ending, Refused, ByImage, BySecond, status_of, fault_text}
 use Rattle.mirror_model.specs.Command.{MirrorKind, RefusedBefore, RefusedOpen, RefusedLegs, Mirrors, mirror_outset, mirror_format, opened_mirror, unequal_in, AreLegsLeft, IsMirrorAtExit}
-use Rattle.mirror_model.specs.Mirror.{MirrorChange, changes_on_first, changes_on_second}
-use Rattle.mirror_model.specs.Ending.{MirrorEnding, Ends, RefusedSecond, mirror_status, mirror_fault_text}
+use Rattle.mirror_model.specs.Mirror.{LegChanges, changes_on_first, changes_on_second, on_legs}
 
 -- A device of so many blocks of 512 bytes, all of whose cells are empty.
 abbrev device_of : ℕ → DeviceKind
@@ -61,18 +60,18 @@ mirror_outset-first = refl
 
 -- ---- what is told
 
-unequal_in-text : mirror_fault_text (unequal_in unequal image image) ≡ codes "fault legs 80 512 208 512\n"
+unequal_in-text : fault_text (unequal_in unequal image image) ≡ codes "fault legs 80 512 208 512\n"
 unfolding digits
 unequal_in-text = refl
 
-second-text : mirror_fault_text (RefusedSecond (BySuperblock Magic)) ≡ codes "fault second magic\n"
+second-text : fault_text (Refused (BySecond (BySuperblock Magic))) ≡ codes "fault second magic\n"
 second-text = refl
 
-first-text : mirror_fault_text (Ends (Refused (ByImage (BySuperblock Magic)))) ≡ codes "fault image magic\n"
+first-text : fault_text (Refused (ByImage (BySuperblock Magic))) ≡ codes "fault image magic\n"
 first-text = refl
 
-statuses : (mirror_status (unequal_in unequal image image) ≡ 3) × (mirror_status (RefusedSecond (BySuperblock Magic)) ≡ 3)
-    × (mirror_status (Ends (Refused (ByImage (BySuperblock Magic)))) ≡ 3)
+statuses : (status_of (unequal_in unequal image image) ≡ 3) × (status_of (Refused (BySecond (BySuperblock Magic))) ≡ 3)
+    × (status_of (Refused (ByImage (BySuperblock Magic))) ≡ 3)
 statuses = (refl, refl, refl)
 
 -- ---- the changes of each leg
@@ -85,19 +84,19 @@ changes-level = (refl, refl)
 -- ---- what is left
 
 -- So no such run leaves a disk as it was at the start.
-left-once_levelled : (start second_start later second_later : Content) (ending : MirrorEnding) (changes : List MirrorChange) → changes ≢ []
+left-once_levelled : (start second_start later second_later : Content) (ending : Ending) (changes : LegChanges) → changes ≢ on_legs []
     → IsMirrorAtExit (Mirrors equal image image) start second_start changes ending later second_later → AreLegsLeft equal image image changes later second_later
 left-once_levelled start second_start later second_later ending changes some (inl opening) = absurd (some opening.0)
 left-once_levelled start second_start later second_later ending changes some (inr left) = left
 
 -- By the refusal of the second image the first is open and keeps its cells, and the second is not written.
 left-second_refused : (start second_start later second_later : Content)
-    → IsMirrorAtExit (RefusedOpen unequal image (BySuperblock Magic)) start second_start [] (RefusedSecond (BySuperblock Magic)) later second_later
+    → IsMirrorAtExit (RefusedOpen unequal image (BySuperblock Magic)) start second_start (on_legs []) (Refused (BySecond (BySuperblock Magic))) later second_later
     → IsOfDevice unequal.first image [] later × IsUntouched second_start second_later
 left-second_refused start second_start later second_later left = left
 
 -- By unequal legs both are, and keep theirs.
 left-unequal : (start second_start later second_later : Content)
-    → IsMirrorAtExit (RefusedLegs unequal image image) start second_start [] (unequal_in unequal image image) later second_later
+    → IsMirrorAtExit (RefusedLegs unequal image image) start second_start (on_legs []) (unequal_in unequal image image) later second_later
     → IsOfDevice unequal.first image [] later × IsOfDevice unequal.second image [] second_later
 left-unequal start second_start later second_later left = (left.on_first, left.on_second)

@@ -6,7 +6,7 @@ use Rattle.std.proofs.lemmas.Option.{none-some, same_Some}
 use Rattle.disk_model.specs.Disk.{Content, EachImage}
 use Rattle.disk_model.specs.Moments.{content_now, EachMoment, HasNow}
 use Rattle.disk_model.proofs.MomentsLemmas.{EachMoment-weaker}
-use Rattle.device_model.specs.Device.{DeviceKind}
+use Rattle.device_model.specs.Device.{DeviceKind, IsLeftWithin}
 use Rattle.device_model.specs.History.{Change, History, with_change, with_changes}
 use Rattle.device_model.specs.Mode.{DeviceFormat}
 use Rattle.device_model.specs.Progress as Model
@@ -21,7 +21,7 @@ use Rattle.device_parts.specs.Device.{Standing}
 use Rattle.device.specs.declared.mode.DeviceParts.{DeviceParts}
 use Rattle.device.specs.Answers.{IsAtRest}
 use Rattle.device.specs.Device.{IsDevice, kind_of}
-use Rattle.device.specs.Run.{HasRun, IsCutOff, IsLeftWithin, standing_behind}
+use Rattle.device.specs.Run.{HasRun, IsCutOff, standing_behind}
 use Rattle.device.specs.Tags.{Leaves, LeavesIn}
 use Rattle.device.proofs.ModeLemmas.{left_now}
 use Rattle.device.proofs.RunLemmas.{cut_run, cut_then, cut_wider, left-wider}

@@ -1,3 +1,9 @@
+pub mod UnderWayLemmas
+pub mod SettledLemmas
+pub mod AskedLemmas
+pub mod AskingLemmas
+pub mod FitLemmas
+pub mod PieceLemmas
 pub mod CourseLemmas
 pub mod CutLemmas
 pub mod StreamLemmas

@@ -16,7 +16,8 @@ use Rattle.nbd_flight.specs.Deeds.{HasDone, HasStopped, Scene, held_with}
 use Rattle.nbd_flight.proofs.DeedLemmas.{held_none}
 use Rattle.nbd_incoming.specs.declared.incoming.Incoming.{Incoming}
 use Rattle.nbd_session.specs.Session.{HasReadPieces, IsNew, ReadsStream, deeds_over, joined, most_read}
-use Rattle.nbd_session.proofs.CourseLemmas.{AreSmall, left_given, left_more, left_none, small-append, small-none, small-one, whole-append, whole_of}
+use Rattle.nbd_session.proofs.CourseLemmas.{left_given, left_more, left_none}
+use Rattle.nbd_model.proofs.CuttingLemmas.{AreSmall, none_unended, small-append, small-none, small-one, whole-append, whole_of}
 use Rattle.nbd_session.proofs.CutLemmas.{take-front}
 use Rattle.nbd_session.proofs.StreamLemmas.{IsOnStream, deeds_so_far, unended_so_far}
 
@@ -62,11 +63,6 @@ stopped_holds w deeds stops.Sink old new stopped = record {
 }
 
 -- ---- which pieces
-
--- Nothing ends the requests in no bytes.
-pub none_unended : (requests_of []).ending ≡ streams.Ended
-unfolding stream_from
-none_unended = refl
 
 -- None,
 pub read_nothing : (w : Standing) (left later : Option (List ℕ)) {failed : Type 0} (held_before held : Option (List ℕ)) → later ≡ left → held ≡ held_before

@@ -29,16 +29,17 @@ use Rattle.nbd_incoming.specs.declared.incoming.Incoming.{Incoming}
 use Rattle.nbd_incoming.specs.Incoming.{Keeps}
 use Rattle.nbd_incoming.specs.Taking.{Asking, asks_in, end_of, ending_by, groups_in}
 use Rattle.nbd_incoming.proofs.ReadLemmas.{ending_law, groups_law}
-use Rattle.nbd_pieces.specs.declared.piece_end.PieceEnd.{PieceEnd}
-use Rattle.nbd_pieces.specs.declared.piece_end.PieceEnd.TheVariants as piece_ends
-use Rattle.nbd_pieces.specs.Piece.{EndsSo, HasTakenPiece, end_told}
-use Rattle.nbd_pieces.specs.UnderWay.{IsUnderWay}
-use Rattle.nbd_pieces.proofs.PieceLemmas.{IsAlong, along_then, here-is}
-use Rattle.nbd_pieces.proofs.SettledLemmas.{until-none}
+use Rattle.nbd_session.specs.declared.piece_end.PieceEnd.{PieceEnd}
+use Rattle.nbd_session.specs.declared.piece_end.PieceEnd.TheVariants as piece_ends
+use Rattle.nbd_session.specs.Piece.{EndsSo, HasTakenPiece, end_told}
+use Rattle.nbd_session.specs.UnderWay.{IsUnderWay}
+use Rattle.nbd_session.proofs.PieceLemmas.{IsAlong, along_then, here-is}
+use Rattle.nbd_session.proofs.SettledLemmas.{until-none}
 use Rattle.nbd_session.specs.Serving.{HasServed, end_in_piece, ending_told, fault_of}
 use Rattle.nbd_session.specs.Session.{Course, HasLostSource, HasStoppedIn, HasStoppedSo, IsNew, deeds_over, ending_of}
 use Rattle.nbd_session.proofs.CutLemmas.{take-front}
-use Rattle.nbd_session.proofs.CourseLemmas.{AreSmall, course, left_more, left_none, rest_in, singles, small-append, small-none, small-one, unread, whole-append, whole_of}
+use Rattle.nbd_session.proofs.CourseLemmas.{course, left_more, left_none, rest_in, unread}
+use Rattle.nbd_model.proofs.CuttingLemmas.{AreSmall, singles, small-append, small-none, small-one, whole-append, whole_of}
 
 -- What ends the requests in a piece ends the stream so.
 pub told_end : (end : PieceEnd) → end_told end ≡ ending_told (end_in_piece end)

@@ -7,7 +7,7 @@ use Rattle.nbd_model.specs.Stream as streams
 use Rattle.nbd_model.specs.Stream.{front_of, stream_from}
 use Rattle.nbd_model.specs.Deeds.{tells_eio, text_in}
 use Rattle.nbd_session.specs.Session.{Course, deeds_over, ending_of}
-use Rattle.nbd_session.proofs.CourseLemmas.{singles, small-one, small-singles}
+use Rattle.nbd_model.proofs.CuttingLemmas.{singles, small-one, small-singles}
 
 -- A read of no bytes, then a request to disconnect, and a byte behind it.
 abbrev refused : List ℕ

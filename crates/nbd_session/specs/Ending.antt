@@ -6,7 +6,7 @@ use Rattle.device_model.specs.History.{Change, with_changes}
 use Rattle.direct_laws.specs.MomentLaws.{IsLeftNow}
 use Rattle.device_parts.specs.Device.{Standing}
 use Rattle.device.specs.Device.{kind_of}
-use Rattle.device.specs.Run.{IsLeftWithin}
+use Rattle.device_model.specs.Device.{IsLeftWithin}
 use Rattle.device.specs.Tags.{Leaves}
 use Rattle.nbd_model.specs.Session.{Deed, session_deeds}
 use Rattle.nbd_model.specs.Deeds.{changes_by}

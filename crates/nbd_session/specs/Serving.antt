@@ -12,9 +12,9 @@ use Rattle.nbd_flight.specs.Deeds.{HasDone, Scene}
 use Rattle.nbd_flight.specs.Rounds.{CountsDamage}
 use Rattle.nbd_incoming.specs.declared.incoming.Incoming.{Incoming}
 use Rattle.nbd_incoming.specs.Incoming.{Keeps}
-use Rattle.nbd_pieces.specs.declared.piece_end.PieceEnd.{PieceEnd}
-use Rattle.nbd_pieces.specs.declared.piece_end.PieceEnd.TheVariants as pieces
-use Rattle.nbd_pieces.specs.Piece.{IsFor}
+use Rattle.nbd_session.specs.declared.piece_end.PieceEnd.{PieceEnd}
+use Rattle.nbd_session.specs.declared.piece_end.PieceEnd.TheVariants as pieces
+use Rattle.nbd_session.specs.Piece.{IsFor}
 use Rattle.nbd_session.specs.declared.ended.SessionFault.{SessionFault}
 use Rattle.nbd_session.specs.declared.ended.SessionFault.TheVariants.{Memory, Disk, Sink}
 use Rattle.nbd_session.specs.declared.serving.StreamEnd.{StreamEnd}

@@ -11,11 +11,10 @@ ghost use Rattle.nbd_session.specs.Serving.{IsFirst, ServesStream, end_in_piece}
 ghost use Rattle.nbd_session.specs.Session.{HasSessionCauses, LeavesClosed, ReadsStream, ServesSession, StopsSession, outside_of};
 
 use crate::ended::fault_of_stop;
-use crate::{Ended, SessionFault};
+use crate::{Ended, PieceEnd, SessionFault, serve_piece};
 use device::Device;
 use nbd_flight::{Buffers, Flight};
 use nbd_incoming::Incoming;
-use nbd_pieces::{PieceEnd, serve_piece};
 use sector_disk::{Disk, Memory};
 use std::alloc::Global;
 use stream_io::{Sink, Source};

@@ -32,73 +32,73 @@ module _ (g : Geometry) (sectors : ℕ) (geometry : IsGeometry g sectors) (image
   unfolding placed_cells_of
   placed_bytes size each = sym (bytes_at_read image (data_at g b) g.shape.spb cell.bytes size (λ k inside. sym (each k inside)))
 
-  pub two_sectors : bytes_at image (tag_at g b).0 2 ≡ image (tag_at g b).0 ++ image (suc (tag_at g b).0)
-  two_sectors = ap (λ (xs : List ℕ). image (tag_at g b).0 ++ xs) (append-nil (image (suc (tag_at g b).0)))
+  pub two_sectors : bytes_at image (tag_at g b).sector 2 ≡ image (tag_at g b).sector ++ image (suc (tag_at g b).sector)
+  two_sectors = ap (λ (xs : List ℕ). image (tag_at g b).sector ++ xs) (append-nil (image (suc (tag_at g b).sector)))
 
-  first_whole : length (image (tag_at g b).0) ≡ 512
+  first_whole : length (image (tag_at g b).sector) ≡ 512
   first_whole =
       let tag = tag_at-inside g sectors b geometry low in
       let data_ = data_at-inside g sectors b geometry low in
-      whole (tag_at g b).0 (let some = geometry.tag_size.0 in omega arith)
+      whole (tag_at g b).sector (let some = geometry.tag_size.0 in omega arith)
 
-  pub long : (tag_at g b).1 + g.shape.tag_size ≤ length (image (tag_at g b).0 ++ image (suc (tag_at g b).0))
-  long = elim (cases_lt 512 ((tag_at g b).1 + g.shape.tag_size)) [
-    | inr within ↦ omega (arith, first_whole, length-append (image (tag_at g b).0) (image (suc (tag_at g b).0)))
+  pub long : (tag_at g b).byte + g.shape.tag_size ≤ length (image (tag_at g b).sector ++ image (suc (tag_at g b).sector))
+  long = elim (cases_lt 512 ((tag_at g b).byte + g.shape.tag_size)) [
+    | inr within ↦ omega (arith, first_whole, length-append (image (tag_at g b).sector) (image (suc (tag_at g b).sector)))
     | inl past ↦
         let tag = tag_at-inside g sectors b geometry low in
         let data_ = data_at-inside g sectors b geometry low in
-        let second = whole (suc (tag_at g b).0) (omega arith) in
+        let second = whole (suc (tag_at g b).sector) (omega arith) in
         let small = geometry.tag_size.1 in
-        omega (arith, first_whole, second, length-append (image (tag_at g b).0) (image (suc (tag_at g b).0)))
+        omega (arith, first_whole, second, length-append (image (tag_at g b).sector) (image (suc (tag_at g b).sector)))
   ]
 
   -- Byte i of the tag is the one where the layout puts it.
-  byte_is : (i : ℕ) → i < g.shape.tag_size → slice_index (image (tag_at g b).0 ++ image (suc (tag_at g b).0)) ((tag_at g b).1 + i) ≡ slice_index (image (tag_byte_at g b i).0) (tag_byte_at g b i).1
+  byte_is : (i : ℕ) → i < g.shape.tag_size → slice_index (image (tag_at g b).sector ++ image (suc (tag_at g b).sector)) ((tag_at g b).byte + i) ≡ slice_index (image (tag_byte_at g b i).sector) (tag_byte_at g b i).byte
   unfolding tag_byte_at
-  byte_is i inside = elim (cases_lt ((tag_at g b).1 + i) 512) [
+  byte_is i inside = elim (cases_lt ((tag_at g b).byte + i) 512) [
     | inl first ↦
-        let here : (tag_at g b).0 + ((tag_at g b).1 + i) / 512 ≡ (tag_at g b).0 = omega arith in
-        let at : ((tag_at g b).1 + i) % 512 ≡ (tag_at g b).1 + i = omega arith in
-        rw (here, at) (get_or_append_left (image (tag_at g b).0) (image (suc (tag_at g b).0)) 0 ((tag_at g b).1 + i) (omega (arith, first_whole)))
+        let here : (tag_at g b).sector + ((tag_at g b).byte + i) / 512 ≡ (tag_at g b).sector = omega arith in
+        let at : ((tag_at g b).byte + i) % 512 ≡ (tag_at g b).byte + i = omega arith in
+        rw (here, at) (get_or_append_left (image (tag_at g b).sector) (image (suc (tag_at g b).sector)) 0 ((tag_at g b).byte + i) (omega (arith, first_whole)))
     | inr second ↦
         let small = geometry.tag_size.1 in
         let tag = tag_at-inside g sectors b geometry low in
-        let here : (tag_at g b).0 + ((tag_at g b).1 + i) / 512 ≡ suc (tag_at g b).0 = omega arith in
-        let at : ((tag_at g b).1 + i) % 512 ≡ (tag_at g b).1 + i - 512 = omega arith in
-        let sum : length (image (tag_at g b).0) + ((tag_at g b).1 + i - 512) ≡ (tag_at g b).1 + i = omega (arith, first_whole) in
+        let here : (tag_at g b).sector + ((tag_at g b).byte + i) / 512 ≡ suc (tag_at g b).sector = omega arith in
+        let at : ((tag_at g b).byte + i) % 512 ≡ (tag_at g b).byte + i - 512 = omega arith in
+        let sum : length (image (tag_at g b).sector) + ((tag_at g b).byte + i - 512) ≡ (tag_at g b).byte + i = omega (arith, first_whole) in
         rw (here, at) (
-        ap (λ (n : ℕ). slice_index (image (tag_at g b).0 ++ image (suc (tag_at g b).0)) n) (sym sum)
-        ∙ get_or-append-add (image (tag_at g b).0) (image (suc (tag_at g b).0)) ((tag_at g b).1 + i - 512) 0)
+        ap (λ (n : ℕ). slice_index (image (tag_at g b).sector ++ image (suc (tag_at g b).sector)) n) (sym sum)
+        ∙ get_or-append-add (image (tag_at g b).sector) (image (suc (tag_at g b).sector)) ((tag_at g b).byte + i - 512) 0)
   ]
 
   -- Each byte of the placed tag is the one where the layout puts it,
-  pub placed_tag-byte : (i : ℕ) → i < g.shape.tag_size → slice_index (placed_cells_of g image b).tag i ≡ slice_index (image (tag_byte_at g b i).0) (tag_byte_at g b i).1
+  pub placed_tag-byte : (i : ℕ) → i < g.shape.tag_size → slice_index (placed_cells_of g image b).tag i ≡ slice_index (image (tag_byte_at g b i).sector) (tag_byte_at g b i).byte
   unfolding placed_cells_of
   placed_tag-byte i inside =
-      ap (λ (bytes : List ℕ). slice_index (piece bytes (tag_at g b).1 g.shape.tag_size) i) two_sectors
-      ∙ get_or-take g.shape.tag_size (drop (tag_at g b).1 (image (tag_at g b).0 ++ image (suc (tag_at g b).0))) i 0 inside
-      ∙ get_or-drop (tag_at g b).1 (image (tag_at g b).0 ++ image (suc (tag_at g b).0)) i 0
+      ap (λ (bytes : List ℕ). slice_index (piece bytes (tag_at g b).byte g.shape.tag_size) i) two_sectors
+      ∙ get_or-take g.shape.tag_size (drop (tag_at g b).byte (image (tag_at g b).sector ++ image (suc (tag_at g b).sector))) i 0 inside
+      ∙ get_or-drop (tag_at g b).byte (image (tag_at g b).sector ++ image (suc (tag_at g b).sector)) i 0
       ∙ byte_is i inside
 
   pub placed_tag-length : length (placed_cells_of g image b).tag ≡ g.shape.tag_size
   unfolding placed_cells_of
   placed_tag-length =
-      ap (λ (bytes : List ℕ). length (piece bytes (tag_at g b).1 g.shape.tag_size)) two_sectors
-      ∙ length-piece (image (tag_at g b).0 ++ image (suc (tag_at g b).0)) (tag_at g b).1 g.shape.tag_size long
+      ap (λ (bytes : List ℕ). length (piece bytes (tag_at g b).byte g.shape.tag_size)) two_sectors
+      ∙ length-piece (image (tag_at g b).sector ++ image (suc (tag_at g b).sector)) (tag_at g b).byte g.shape.tag_size long
 
   -- and the tag is the cell's where each byte of it is.
-  pub placed_tag : length cell.tag ≡ g.shape.tag_size → ((i : ℕ) → i < g.shape.tag_size → slice_index (image (tag_byte_at g b i).0) (tag_byte_at g b i).1 ≡ slice_index cell.tag i) → (placed_cells_of g image b).tag ≡ cell.tag
+  pub placed_tag : length cell.tag ≡ g.shape.tag_size → ((i : ℕ) → i < g.shape.tag_size → slice_index (image (tag_byte_at g b i).sector) (tag_byte_at g b i).byte ≡ slice_index cell.tag i) → (placed_cells_of g image b).tag ≡ cell.tag
   unfolding placed_cells_of
   placed_tag size each =
-      ap (λ (bytes : List ℕ). piece bytes (tag_at g b).1 g.shape.tag_size) two_sectors ∙ tag_is
+      ap (λ (bytes : List ℕ). piece bytes (tag_at g b).byte g.shape.tag_size) two_sectors ∙ tag_is
     where
-      tag_is : piece (image (tag_at g b).0 ++ image (suc (tag_at g b).0)) (tag_at g b).1 g.shape.tag_size ≡ cell.tag
+      tag_is : piece (image (tag_at g b).sector ++ image (suc (tag_at g b).sector)) (tag_at g b).byte g.shape.tag_size ≡ cell.tag
       tag_is =
-          let size_is = length-piece (image (tag_at g b).0 ++ image (suc (tag_at g b).0)) (tag_at g b).1 g.shape.tag_size long in
-          same_number_lists (piece (image (tag_at g b).0 ++ image (suc (tag_at g b).0)) (tag_at g b).1 g.shape.tag_size) cell.tag (size_is ∙ sym size) (λ i inside.
+          let size_is = length-piece (image (tag_at g b).sector ++ image (suc (tag_at g b).sector)) (tag_at g b).byte g.shape.tag_size long in
+          same_number_lists (piece (image (tag_at g b).sector ++ image (suc (tag_at g b).sector)) (tag_at g b).byte g.shape.tag_size) cell.tag (size_is ∙ sym size) (λ i inside.
           let inside_tag : i < g.shape.tag_size = omega (arith, size_is) in
-          get_or-take g.shape.tag_size (drop (tag_at g b).1 (image (tag_at g b).0 ++ image (suc (tag_at g b).0))) i 0 inside_tag
-          ∙ get_or-drop (tag_at g b).1 (image (tag_at g b).0 ++ image (suc (tag_at g b).0)) i 0
+          get_or-take g.shape.tag_size (drop (tag_at g b).byte (image (tag_at g b).sector ++ image (suc (tag_at g b).sector))) i 0 inside_tag
+          ∙ get_or-drop (tag_at g b).byte (image (tag_at g b).sector ++ image (suc (tag_at g b).sector)) i 0
           ∙ byte_is i inside_tag ∙ each i inside_tag)
 
 -- A sector of the placed bytes is the image's.

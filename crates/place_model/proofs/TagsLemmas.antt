@@ -16,14 +16,14 @@ pub length-sector_in : (bytes : List ℕ) (k count : ℕ) → length bytes ≡ 5
 length-sector_in bytes k count size low = length-take-le 512 (drop (512 * k) bytes) (omega (arith, size, length-drop (512 * k) bytes))
 
 -- The byte of a tag lies behind the journal.
-pub tag_byte-behind : (g : Geometry) (sectors b i : ℕ) → IsGeometry g sectors → b < g.blocks → initial g ≤ (tag_byte_at g b i).0
+pub tag_byte-behind : (g : Geometry) (sectors b i : ℕ) → IsGeometry g sectors → b < g.blocks → initial g ≤ (tag_byte_at g b i).sector
 unfolding tag_byte_at
 tag_byte-behind g sectors b i geometry low = let tag = tag_at-inside g sectors b geometry low in omega arith
 
 -- The sector of a tag's byte holds no data.
-pub tag_byte-no_data : (g : Geometry) (sectors b c i k : ℕ) → IsGeometry g sectors → i < g.shape.tag_size → k < g.shape.spb → (tag_byte_at g b i).0 ≢ data_at g c + k
+pub tag_byte-no_data : (g : Geometry) (sectors b c i k : ℕ) → IsGeometry g sectors → i < g.shape.tag_size → k < g.shape.spb → (tag_byte_at g b i).sector ≢ data_at g c + k
 unfolding tag_byte_at
-tag_byte-no_data g sectors b c i k geometry i_low k_low = tag_sector-no_data g sectors b c ((tag_at g b).0 + ((tag_at g b).1 + i) / 512) k geometry (omega arith) (omega arith) k_low
+tag_byte-no_data g sectors b c i k geometry i_low k_low = tag_sector-no_data g sectors b c ((tag_at g b).sector + ((tag_at g b).byte + i) / 512) k geometry (omega arith) (omega arith) k_low
 
 -- A sector of data is one of one block, and one place in it.
 pub data_once : (g : Geometry) (sectors b c i k : ℕ) → IsGeometry g sectors → i < g.shape.spb → k < g.shape.spb → data_at g b + i ≡ data_at g c + k → (b ≡ c) × (i ≡ k)

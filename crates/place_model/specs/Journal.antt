@@ -3,7 +3,7 @@
 use Rattle.std.specs.Prelude.{◌≡◌, ℕ, ◌+◌, ◌<◌, IsOk, List, [], map, filter_map}
 use Rattle.std.specs.List.{range_with_len}
 use Rattle.disk_model.specs.Disk.{Image}
-use Rattle.image_model.specs.Cells.{entry_of, replayed_entries}
+use Rattle.image_model.specs.Cells.{entry_of, replayed_entries, places_in}
 use Rattle.image_model.specs.CommitId.{commit_number}
 use Rattle.image_model.specs.Geometry.{Geometry, section_at, section_entries, section_sectors}
 use Rattle.image_model.specs.Grid.{walk_of}
@@ -25,7 +25,7 @@ numbers_on g image section sector = commit_number section sector (image (section
 -- The used entries of a section of an image, in order.
 unfoldable pub entries_in : Geometry → Image → ℕ → List Entry
 entries_in g image section =
-    filter_map (entry_of g image) (map (λ n. (section, n)) (range_with_len 0 (section_entries g.shape)))
+    filter_map (entry_of g image) (places_in (section_entries g.shape) section)
 
 -- The journal of an image has a walk, and no entry of it is replayed.
 pub record HasNothingToReplay (g : Geometry) (image : Image) : Type 0 where

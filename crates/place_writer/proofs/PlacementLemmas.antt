@@ -16,7 +16,7 @@ use Rattle.direct_mode.specs.Cells.{IsOfBlockOrTags}
 use Rattle.place_model.proofs.EachLemmas.{all_drop, all_get}
 use Rattle.journal_model.specs.Ring.{JournalRing, entries_of, unplaced_from, with_settle}
 use Rattle.journal_model.proofs.JournalRingLemmas.{entries_of-append, entries_of-size}
-use Rattle.journal_overlay.specs.declared.place.Place.{Place}
+use Rattle.image_model.specs.declared.entry_place.EntryPlace.{EntryPlace}
 use Rattle.journal_ring.specs.Places.{entries_at, oldest_at}
 use Rattle.journal_ring.specs.RoomLaws.{HasBounds}
 use Rattle.journal_ring.specs.Sections.{wrap}
@@ -47,17 +47,17 @@ position-behind n o k low k_low = elim (cases_lt (o + k) n) [
 
 -- ---- the next entry
 
-abbrev place_of : Placement → JournalRing → Place
+abbrev place_of : Placement → JournalRing → EntryPlace
 place_of p ring = record { section = wrap ring.geometry.sections (oldest_at ring + p.sections); entry = p.entries }
 
 -- There is one exactly where some section is not wholly placed.
-pub next_more : (p : Placement) (ring : JournalRing) (place : Place) → next_place p ring ≡ Some place → p.sections < length ring.committed
+pub next_more : (p : Placement) (ring : JournalRing) (place : EntryPlace) → next_place p ring ≡ Some place → p.sections < length ring.committed
 next_more p ring place there = elim (cases_lt p.sections (length ring.committed)) [
   | inl more ↦ more
   | inr none ↦ absurd (none-some place (sym (ap (λ (t : Bool). if t then Some (place_of p ring) else None) (le-ltb p.sections (length ring.committed) none)) ∙ there))
 ]
 
-pub next_there : (p : Placement) (ring : JournalRing) (place : Place) → next_place p ring ≡ Some place → place ≡ record { section = wrap ring.geometry.sections (oldest_at ring + p.sections); entry = p.entries }
+pub next_there : (p : Placement) (ring : JournalRing) (place : EntryPlace) → next_place p ring ≡ Some place → place ≡ record { section = wrap ring.geometry.sections (oldest_at ring + p.sections); entry = p.entries }
 next_there p ring place there =
     same_Some place (place_of p ring)
     (sym there ∙ ap (λ (t : Bool). if t then Some (place_of p ring) else None) (lt-ltb p.sections (length ring.committed) (next_more p ring place there)))
@@ -228,7 +228,7 @@ sections_few g sectors is =
     omega arith
 
 -- The place is that of the next entry, which is known by its number among all.
-pub record IsNextPlace (p : Placement) (ring : JournalRing) (place : Place) : Type 0 where
+pub record IsNextPlace (p : Placement) (ring : JournalRing) (place : EntryPlace) : Type 0 where
   pub more : p.sections < length ring.committed
   pub inside : place.section < ring.geometry.sections
   pub here : entries_at ring place.section ≡ get_or ring.committed p.sections []
@@ -238,12 +238,12 @@ pub record IsNextPlace (p : Placement) (ring : JournalRing) (place : Place) : Ty
   pub told : slice_get (entries_of ring.committed) (placed_in p ring) ≡ Some entry
   pub whole : IsWholeEntry ring.geometry entry
 
-pub next_found : (p : Placement) (ring : JournalRing) (place : Place) → IsPlacementOf p ring → HasBounds ring → next_place p ring ≡ Some place → IsNextPlace p ring place
+pub next_found : (p : Placement) (ring : JournalRing) (place : EntryPlace) → IsPlacementOf p ring → HasBounds ring → next_place p ring ≡ Some place → IsNextPlace p ring place
 next_found p ring place is bounds found =
     let more = next_more p ring place found in
     let at = next_there p ring place found in
-    let section : place.section ≡ wrap ring.geometry.sections (oldest_at ring + p.sections) = ap (λ (x : Place). x.section) at in
-    let number : place.entry ≡ p.entries = ap (λ (x : Place). x.entry) at in
+    let section : place.section ≡ wrap ring.geometry.sections (oldest_at ring + p.sections) = ap (λ (x : EntryPlace). x.section) at in
+    let number : place.entry ≡ p.entries = ap (λ (x : EntryPlace). x.entry) at in
     let here : entries_at ring place.section ≡ get_or ring.committed p.sections [] = ap (entries_at ring) section ∙ entries_here p ring is more bounds in
     let low = entry_low p ring is more in
     let entry = used_there (get_or ring.committed p.sections []) p.entries low in

@@ -6,7 +6,7 @@ use Rattle.image_model.specs.Geometry.{Geometry}
 use Rattle.image_model.specs.Section.{Entry}
 use Rattle.direct_mode.specs.Cells.{IsOfBlockOrTags}
 use Rattle.journal_model.specs.Ring.{JournalRing, with_settle}
-use Rattle.journal_overlay.specs.declared.place.Place.{Place}
+use Rattle.image_model.specs.declared.entry_place.EntryPlace.{EntryPlace}
 use Rattle.place_writer.specs.Moves.{WritesNext}
 use Rattle.place_writer.specs.Placement.{after_next, next_place, placed_in, without}
 use Rattle.place_writer.specs.declared.placement.Placement.{Placement}
@@ -17,7 +17,7 @@ entry sector = record { sector = sector; bytes = []; tag = [] }
 abbrev placed : ℕ → ℕ → Placement
 placed sections entries = record { sections = sections; entries = entries }
 
-abbrev place : ℕ → ℕ → Option Place
+abbrev place : ℕ → ℕ → Option EntryPlace
 place section entry_ = Some (record { section = section; entry = entry_ })
 
 abbrev five_sections : Geometry

@@ -12,7 +12,7 @@ use Rattle.direct_mode.specs.Cells.{IsOfBlockOrTags}
 use Rattle.journal_model.specs.JournaledDisk.{JournaledDisk, IsCutOf, StandsFor, cell_at}
 use Rattle.journal_model.specs.Ring.{JournalRing, entries_of, with_settle}
 use Rattle.journal_model.specs.Steps.{after_place, after_settle}
-use Rattle.journal_overlay.specs.declared.place.Place.{Place}
+use Rattle.image_model.specs.declared.entry_place.EntryPlace.{EntryPlace}
 use Rattle.journal_ring.specs.Places.{entries_at}
 use Rattle.journal_ring.specs.declared.ring.Moved.{Moved}
 use Rattle.journal_ring.specs.declared.ring.Moved.TheVariants.{Did, Idle}
@@ -98,28 +98,28 @@ GivesNext p ring old new before after =
 -- ---- an entry that stands here in a ring
 
 -- The entry, if there is one.
-abbrev pub entry_in : JournalRing → Place → Option Entry
+abbrev pub entry_in : JournalRing → EntryPlace → Option Entry
 entry_in ring place = slice_get (entries_at ring place.section) place.entry
 
 -- Every disk of which it is the next one, and that has its cells, has those of the disk with it then.
-abbrev pub PlacesThere : JournalRing → Place → (store last : Store) → (before after : List Content) → Type 0
+abbrev pub PlacesThere : JournalRing → EntryPlace → (store last : Store) → (before after : List Content) → Type 0
 PlacesThere ring place store last before after = (d : JournaledDisk) (entry : Entry)
     → entry_in ring place ≡ Some entry → slice_get d.entries d.placed ≡ Some entry → HasCells d store before
     → HasCells (after_place d) last after
 
 -- At each moment of it such a disk stands for the one with the entry.
-abbrev pub StandsThere : JournalRing → Place → Store → (before after : List Content) → Type 0
+abbrev pub StandsThere : JournalRing → EntryPlace → Store → (before after : List Content) → Type 0
 StandsThere ring place store before after = (d : JournaledDisk) (entry : Entry)
     → entry_in ring place ≡ Some entry → slice_get d.entries d.placed ≡ Some entry → HasCells d store before
     → EachMoment before after (StandsFor (after_place d))
 
 -- The store gives for its block its tag then, and for each other block the tag that it gave.
-abbrev pub GivesThere : JournalRing → Place → (store last : Store) → (before after : List Content) → Type 0
+abbrev pub GivesThere : JournalRing → EntryPlace → (store last : Store) → (before after : List Content) → Type 0
 GivesThere ring place store last before after = (entry : Entry) → entry_in ring place ≡ Some entry
     → GivesEntry store.geometry (Some entry) store last before after
 
 -- No sector is written but those of tags, and those of its block, with its bytes.
-abbrev pub WritesThere : JournalRing → Place → Geometry → (before after : List Content) → Type 0
+abbrev pub WritesThere : JournalRing → EntryPlace → Geometry → (before after : List Content) → Type 0
 WritesThere ring place g before after = (entry : Entry) → entry_in ring place ≡ Some entry
     → EachSince (OnlyAdds (IsOfBlockOrTags g (block_of g entry) entry.bytes)) before after
 

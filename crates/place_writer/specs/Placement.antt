@@ -4,7 +4,7 @@ use Rattle.std.specs.List.{AllByRecursion}
 use Rattle.image_model.specs.Geometry.{Geometry}
 use Rattle.image_model.specs.Section.{Entry}
 use Rattle.journal_model.specs.Ring.{JournalRing, entries_of}
-use Rattle.journal_overlay.specs.declared.place.Place.{Place}
+use Rattle.image_model.specs.declared.entry_place.EntryPlace.{EntryPlace}
 use Rattle.journal_ring.specs.Places.{oldest_at}
 use Rattle.journal_ring.specs.Sections.{wrap}
 use Rattle.place_writer.specs.declared.placement.Placement.{Placement}
@@ -14,7 +14,7 @@ abbrev pub placed_in : Placement → JournalRing → ℕ
 placed_in p ring = length (entries_of (take p.sections ring.committed)) + p.entries
 
 -- Where the oldest committed entry stands that is not placed, if there is one.
-abbrev pub next_place : Placement → JournalRing → Option Place
+abbrev pub next_place : Placement → JournalRing → Option EntryPlace
 next_place p ring =
     if ltb p.sections (length ring.committed)
     then Some (record {

@@ -9,8 +9,7 @@ ghost use Rattle.place_writer.specs.Placement.{IsWholeEntry};
 ghost use Rattle.tag_store.specs.Store.{IsStore};
 
 use crate::writing::write_entry;
-use image_model::{LARGEST_BLOCK, SECTOR_SIZE};
-use journal_overlay::Place;
+use image_model::{EntryPlace, LARGEST_BLOCK, SECTOR_SIZE};
 use journal_ring::Ring;
 use journal_section::EntryView;
 use sector_disk::{Disk, Failed};
@@ -25,7 +24,7 @@ pub(crate) fn place_entry<D: Disk>(
     disk: &mut D,
     ring: &Ring<'_>,
     tags: &mut Tags,
-    place: Place,
+    place: EntryPlace,
 ) -> Result<(), Failed>
     requires section { place.section < ring.now.geometry.sections }
     requires entry { place.entry < length (entries_at ring.now place.section) }

@@ -34,6 +34,7 @@ pub fn flush<D: Disk>(disk: &mut D, tags: &mut Tags) -> Result<(), Failed>
     ensures store { IsStore tags.new (D.identity disk.new) (D.moments disk.new) }
     ensures geometry { tags.new.geometry ≡ tags.old.geometry }
     ensures identity { D.identity disk.new ≡ D.identity disk.old }
+    ensures unread { D.reads disk.new ≡ D.reads disk.old }
 
     ensures stands { (d : JournaledDisk) → HasCells d tags.old (D.moments disk.old)
         → EachMoment (D.moments disk.old) (D.moments disk.new) (StandsFor d) }

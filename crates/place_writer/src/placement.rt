@@ -4,7 +4,7 @@ ghost use Rattle.journal_ring.specs.RoomLaws.{HasBounds};
 ghost use Rattle.journal_ring.specs.Sections.{wrap};
 ghost use Rattle.place_writer.specs.Placement.{IsPlacementOf, after_next, next_place};
 
-use journal_overlay::Place;
+use image_model::EntryPlace;
 use journal_ring::Ring;
 
 /// The oldest committed sections, of which each entry is placed, and the first entries of the next one.
@@ -17,7 +17,7 @@ pub(crate) struct Placement {
 }
 
 /// Where the oldest committed entry stands that is not placed.
-pub(crate) fn next(placement: Placement, ring: &Ring<'_>) -> Option<Place>
+pub(crate) fn next(placement: Placement, ring: &Ring<'_>) -> Option<EntryPlace>
     requires placement { IsPlacementOf placement ring.now }
 
     ensures place { result ≡ next_place placement ring.now }
@@ -29,7 +29,7 @@ pub(crate) fn next(placement: Placement, ring: &Ring<'_>) -> Option<Place>
     if placement.sections == ring.sections() {
         return None;
     }
-    let place = Place {
+    let place = EntryPlace {
         section: behind(oldest, placement.sections, ring.sections()),
         entry: placement.entries,
     };

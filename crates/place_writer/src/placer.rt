@@ -121,6 +121,7 @@ impl Placer {
         ensures geometry { ring.new.geometry ≡ ring.old.geometry }
         ensures stays { StaysOnDisk tags.old tags.new (D.identity disk.old) (D.identity disk.new)
             (D.moments disk.new) }
+        ensures unread { D.reads disk.new ≡ D.reads disk.old }
 
         ensures cuts { StandsInSettling self.old ring.old tags.old (D.moments disk.old) (D.moments disk.new) }
         ensures moments { WritesTags self.old ring.old tags.old (D.moments disk.old) (D.moments disk.new) }

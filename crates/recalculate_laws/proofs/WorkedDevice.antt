@@ -172,7 +172,7 @@ module _ (known : superblock_of head ≡ Ok fields) where
   pub ReadsTags-image : (c : Content) → last_image c ≡ image → ReadsTags format.geometry tags c
   ReadsTags-image c same = record {
     each = λ b i low i_low.
-        ap (λ (read : Image). slice_index (read (tag_byte_at format.geometry b i).0) (tag_byte_at format.geometry b i).1) same
+        ap (λ (read : Image). slice_index (read (tag_byte_at format.geometry b i).sector) (tag_byte_at format.geometry b i).byte) same
         ∙ sym (placed_tag-byte format.geometry 112 (opens_tells format image opens).is_geometry image HasWholeSectors-image b low (placed_cells_of format.geometry image b) i i_low);
   }
 

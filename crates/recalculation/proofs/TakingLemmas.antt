@@ -152,7 +152,7 @@ module _ (rule : TagRule) (g : Geometry) (old new : Store) (disk now : DiskIdent
 
   -- Where that fails, each byte of a tag that the store gives is an old one or of that tag.
   byte_given : (store : Store) (sectors : ℕ) (d : Content) (n i : ℕ) → IsGeometry old.geometry sectors → AreWhole sectors (given store d) → store.geometry ≡ old.geometry → n < old.geometry.blocks → i < old.geometry.shape.tag_size
-      → slice_index (given_tags store d n) i ≡ slice_index (given store d (tag_byte_at old.geometry n i).0) (tag_byte_at old.geometry n i).1
+      → slice_index (given_tags store d n) i ≡ slice_index (given store d (tag_byte_at old.geometry n i).sector) (tag_byte_at old.geometry n i).byte
   byte_given store sectors d n i geometry all same_ n_low i_low =
       ap (λ (x : Geometry). slice_index (tags_in x (given store d) n) i) same_
       ∙ placed_tag-byte old.geometry sectors geometry (given store d) all n n_low (placed_cells_of old.geometry (given store d) n) i i_low
@@ -168,9 +168,9 @@ module _ (rule : TagRule) (g : Geometry) (old new : Store) (disk now : DiskIdent
           let now_fits : IsGeometry old.geometry now.sectors = subst (λ (x : Geometry). IsGeometry x now.sectors) same_new is_new.geometry in
           let byte = byte_given new now.sectors c n i now_fits (given-whole new now b c is_new (whole_new c told_c)) same_new n_low i_low in
           ⊎_elim
-          (λ e. inl (byte ∙ ap (λ (xs : List ℕ). slice_index xs at.1) e ∙ sym (byte_given old disk.sectors start n i is.geometry all refl n_low i_low)))
-          (λ two. inr (byte ∙ ap (λ (xs : List ℕ). slice_index xs at.1) two.1 ∙ with_tag-byte old.geometry disk.sectors block put (given old start) is.geometry all low_ size_ n i n_low i_low))
-          (first_.given_ start told c told_c at.0);
+          (λ e. inl (byte ∙ ap (λ (xs : List ℕ). slice_index xs at.byte) e ∙ sym (byte_given old disk.sectors start n i is.geometry all refl n_low i_low)))
+          (λ two. inr (byte ∙ ap (λ (xs : List ℕ). slice_index xs at.byte) two.1 ∙ with_tag-byte old.geometry disk.sectors block put (given old start) is.geometry all low_ size_ n i n_low i_low))
+          (first_.given_ start told c told_c at.sector);
     });
   }
     where

@@ -60,7 +60,7 @@ in_place_still g entries tags now c same are = record {
 placed_tag-same : (g : Geometry) (one other : Image) (b : ℕ) → ((sector : ℕ) → one sector ≡ other sector) → (placed_cells_of g one b).tag ≡ (placed_cells_of g other b).tag
 unfolding placed_cells_of
 placed_tag-same g one other b same =
-    ap (λ (xs : List ℕ). piece xs (tag_at g b).1 g.shape.tag_size) (bytes_at-same one other (tag_at g b).0 2 (λ sector low high. same sector))
+    ap (λ (xs : List ℕ). piece xs (tag_at g b).byte g.shape.tag_size) (bytes_at-same one other (tag_at g b).sector 2 (λ sector low high. same sector))
 
 -- So are those of an image of which this is told.
 pub in_place_there : (g : Geometry) (store : Store) (disk : DiskIdentity) (moments : List Content) (start : Content) (entries : List Entry) → g ≡ store.geometry → IsStore store disk moments

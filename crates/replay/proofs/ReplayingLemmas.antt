@@ -5,6 +5,7 @@ use Rattle.std.specs.Result.{is_ok}
 use Rattle.std.proofs.lemmas.Option.{none-some, same_Some, slice_get_within, get_or_from_slice_get}
 use Rattle.disk_model.specs.Disk.{Content, Image}
 use Rattle.disk_model.specs.Identity.{DiskIdentity}
+use Rattle.image_model.specs.declared.entry_place.EntryPlace.{EntryPlace}
 use Rattle.image_model.specs.Cells.{entry_of, replayed_entries}
 use Rattle.image_model.specs.Geometry.{Geometry, IsGeometry}
 use Rattle.image_model.specs.Grid.{walk_of}
@@ -38,7 +39,7 @@ module _ {X Y : Type 0} (f : X → Option Y) where
 -- ---- the entries of a walk
 
 -- The entry at a place of it is one of them.
-pub among_entries : (g : Geometry) (image : Image) (walk : List (ℕ × ℕ)) (k : ℕ) (place : ℕ × ℕ) (entry : Entry) → slice_get (places_of g walk) k ≡ Some place → entry_of g image place ≡ Some entry
+pub among_entries : (g : Geometry) (image : Image) (walk : List (ℕ × ℕ)) (k : ℕ) (place : EntryPlace) (entry : Entry) → slice_get (places_of g walk) k ≡ Some place → entry_of g image place ≡ Some entry
     → Contains (entries_on g image walk) entry
 among_entries g image walk k place entry there some =
     let at = kept_among (entry_of g image) (places_of g walk) k place entry there some in
@@ -55,12 +56,12 @@ module _ (g : Geometry) (sectors : ℕ) (bytes : List ℕ) (journal : JudgedJour
       ∙ sym (replayed_entries-journal g sectors bytes image geometry is.read (ap is_ok walk_there))
 
   -- and each stands at its number.
-  pub numbered_read : (k : ℕ) (place : ℕ × ℕ) → slice_get (places_of g journal.plan.walk) k ≡ Some place → place.0 < g.sections
+  pub numbered_read : (k : ℕ) (place : EntryPlace) → slice_get (places_of g journal.plan.walk) k ≡ Some place → place.section < g.sections
       → entry_of g (journal_image bytes) place ≡ numbered_entry g image k
   numbered_read k place there low =
-      sym (entry_of-journal g sectors bytes image geometry is.read place.0 place.1 low)
+      sym (entry_of-journal g sectors bytes image geometry is.read place.section place.entry low)
       ∙ sym (ap (option_and_then (entry_of g image)) there)
-      ∙ sym (ap (λ (xs : List (ℕ × ℕ)). option_and_then (entry_of g image) (slice_get xs k)) (counted_places-walk g image journal.plan is.on.plan_))
+      ∙ sym (ap (λ (xs : List EntryPlace). option_and_then (entry_of g image) (slice_get xs k)) (counted_places-walk g image journal.plan is.on.plan_))
 
   pub counted_read : length (places_of g journal.plan.walk) ≡ length (counted_places g image)
   counted_read = ap length (sym (counted_places-walk g image journal.plan is.on.plan_))

@@ -54,7 +54,7 @@ put_in_tags store disk block tag {a} is low m =
     let span = tag-span store.geometry disk.sectors block store.geometry.shape.tag_size is.geometry low refl in
     ⊎_elim (λ out. out.marked.tags)
     (λ first. HoldsTag-span store.geometry block store.geometry.shape.tag_size s low refl
-    (first_in_span (tag_at store.geometry block).0 (tag_at store.geometry block).1 store.geometry.shape.tag_size s span.begins span.some first.0.is)) of) start c adds)) m
+    (first_in_span (tag_at store.geometry block).sector (tag_at store.geometry block).byte store.geometry.shape.tag_size s span.begins span.some first.0.is)) of) start c adds)) m
 
 -- Tags that are written back.
 pub tags_add : (g : Geometry) (store : Store) (P : Entry → Type 0) {a b : List Content} → g ≡ store.geometry → EachSince (OnlyAdds (IsMarkedTags store)) a b → EachSince (OnlyAdds (IsOfPlacing g P)) a b

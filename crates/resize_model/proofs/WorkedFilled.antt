@@ -143,18 +143,18 @@ tag_is = eight_blocks HasItsTag tag-8 tag-9 tag-10 tag-11 tag-12 tag-13 tag-14 t
 
 -- Byte by byte, as it stands in its sector.
 pub tag_byte : (b i : ℕ) → IsNewBlock w b → i < 32
-    → slice_index (filled_journal (tag_byte_at longer.geometry b i).0) (tag_byte_at longer.geometry b i).1 ≡ slice_index (tagger_of longer b (zero_block longer.geometry)) i
+    → slice_index (filled_journal (tag_byte_at longer.geometry b i).sector) (tag_byte_at longer.geometry b i).byte ≡ slice_index (tagger_of longer b (zero_block longer.geometry)) i
 unfolding tag_byte_at tag_at tag_offset placed_cells_of data_at sector_at
 tag_byte b i is_new i_low =
     sym (placed_tag-byte (geometry_then w) 128 StandsFor-fresh.formed.grown.is_grown filled_journal HasWholeSectors-filled b is_new.low (placed_cells_of longer.geometry filled_journal b) i i_low)
     ∙ ap (λ (tag : List ℕ). slice_index tag i) (tag_is b is_new.new (new_low b is_new))
 
 -- No old block has a byte of its tag there.
-old_apart : (b i : ℕ) → b < 8 → i < 32 → 112 ≡ (tag_byte_at longer.geometry b i).0 → ⊥
+old_apart : (b i : ℕ) → b < 8 → i < 32 → 112 ≡ (tag_byte_at longer.geometry b i).sector → ⊥
 unfolding tag_byte_at tag_at tag_offset tag_run_of entry_size entries_per_sector section_entries section_sectors
 old_apart b i low i_low there = omega arith
 
-first_there : 112 ≡ (tag_byte_at longer.geometry 8 0).0
+first_there : 112 ≡ (tag_byte_at longer.geometry 8 0).sector
 unfolding tag_byte_at tag_at tag_offset tag_run_of entry_size entries_per_sector section_entries section_sectors
 first_there = refl
 
@@ -189,7 +189,7 @@ IsOfTags-filled = record {
   each = λ b i low i_low there. elim (cases_lt b 8) [
     | inl old ↦ absurd (old_apart b i old i_low there)
     | inr above ↦ inr (
-        ap (λ (n : ℕ). slice_index (filled_journal n) (tag_byte_at longer.geometry b i).1) there
+        ap (λ (n : ℕ). slice_index (filled_journal n) (tag_byte_at longer.geometry b i).byte) there
         ∙ tag_byte b i (record { new = above; low = low }) i_low
         ∙ ap (λ (tag : List ℕ). slice_index tag i) (rw (le-ltb b 8 above) refl))
   ];

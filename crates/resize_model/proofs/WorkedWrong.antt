@@ -49,7 +49,7 @@ journal x of = (beside_old_law w 8 x StandsFor-fresh.formed of).journal refl (re
 
 -- ---- tags
 
-tag-sector : (112 ≡ (tag_byte_at longer.geometry 8 0).0) × ((tag_byte_at longer.geometry 8 0).1 ≡ 0)
+tag-sector : (112 ≡ (tag_byte_at longer.geometry 8 0).sector) × ((tag_byte_at longer.geometry 8 0).byte ≡ 0)
 unfolding tag_byte_at tag_at tag_offset tag_run_of entry_size entries_per_sector section_entries section_sectors
 tag-sector = (refl, refl)
 
@@ -57,7 +57,7 @@ tag-sector = (refl, refl)
 tag-first : slice_index (tagger_of longer 8 (zero_block longer.geometry)) 0 ≡ 0xb1
 tag-first =
     sym (tag_byte 8 0 (low_new 8 (omega arith) (omega arith)) (omega arith))
-    ∙ ap (λ (n : ℕ). slice_index (filled_journal n) (tag_byte_at longer.geometry 8 0).1) (sym tag-sector.0)
+    ∙ ap (λ (n : ℕ). slice_index (filled_journal n) (tag_byte_at longer.geometry 8 0).byte) (sym tag-sector.0)
     ∙ ap (slice_index (filled_journal 112)) tag-sector.1
 
 -- No other byte is written there but the one that was there, which is 0.
@@ -74,7 +74,7 @@ told-early : IsToTell w content content → ⊥
 told-early tells =
     let wrong : 0 ≡ 0xb1 =
     sym (ap (slice_index (fresh_journal 112)) tag-sector.1)
-    ∙ ap (λ (n : ℕ). slice_index (fresh_journal n) (tag_byte_at longer.geometry 8 0).1) tag-sector.0
+    ∙ ap (λ (n : ℕ). slice_index (fresh_journal n) (tag_byte_at longer.geometry 8 0).byte) tag-sector.0
     ∙ tells.new.tags 8 0 (low_new 8 (omega arith) (omega arith)) (omega arith) ∙ tag-first in
     omega (arith, wrong)
 

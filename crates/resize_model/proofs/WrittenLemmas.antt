@@ -7,6 +7,7 @@ use Rattle.std.proofs.lemmas.Option.{same_Some}
 use Rattle.disk_model.specs.Disk.{Content, OnlyAdds, last_image}
 use Rattle.disk_model.specs.Moments.{content_now, EachMoment, EachSince}
 use Rattle.disk_model.proofs.DiskLemmas.{OnlyAdds-wider}
+use Rattle.image_model.specs.declared.byte_place.BytePlace.{BytePlace}
 use Rattle.image_model.specs.Geometry.{data_at}
 use Rattle.image_model.specs.Superblock.{superblock_bytes}
 use Rattle.image_model.specs.SuperblockLaws.{FitsBytes}
@@ -52,7 +53,7 @@ module _ (w : Growth) (formed : IsFormed w) (sector : ℕ) (x : List ℕ) where
       let there = of.is in
       let apart : (b k : ℕ) → k < w.geometry.shape.spb → sector ≢ data_at w.geometry b + k = λ b k k_low at.
       tag_byte-no_data (geometry_then w) w.sectors of.block b of.byte k formed.grown.is_grown of.narrow k_low
-      (ap (λ (place : ℕ × ℕ). place.0) (same_tag_byte w.geometry (geometry_then w).blocks of.block of.byte) ∙ sym of.is ∙ at ∙ same_place b k) in
+      (ap (λ (place : BytePlace). place.sector) (same_tag_byte w.geometry (geometry_then w).blocks of.block of.byte) ∙ sym of.is ∙ at ∙ same_place b k) in
       record {
         behind = omega arith;
         journal = λ clear on. let before = journal-before w.geometry sector on in omega arith;

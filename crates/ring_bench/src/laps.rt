@@ -4,7 +4,7 @@ ghost use Rattle.disk_model.specs.Identity.{HasSectors};
 ghost use Rattle.image_model.specs.Geometry.{initial};
 
 use hmac_tag::Tag;
-use journal_overlay::Place;
+use image_model::EntryPlace;
 use journal_ring::Ring;
 use sector_disk::{Disk, Failed};
 
@@ -78,7 +78,7 @@ fn free_oldest(ring: &mut Ring<'_>)
     let Some(section) = ring.oldest() else {
         return;
     };
-    if ring.committed(Place { section, entry: 0 }) {
+    if ring.committed(EntryPlace { section, entry: 0 }) {
         ring.free(section);
     }
 }

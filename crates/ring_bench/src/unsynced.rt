@@ -42,6 +42,8 @@ impl<D: Disk + Drop> Disk for Unsynced<D> {
 
     ghost moments = { λ d. [] };
 
+    ghost reads = { λ d. D.reads d.disk };
+
     ghost named = { λ d name. record { sectors = (D.named d.disk name).sectors; moments = [] } };
 
     fn sectors(&self) -> u64 {

@@ -1,5 +1,5 @@
 -- How a command ends: with which status, and with which last line where it was ended early.
--- Own: the statuses and the texts.
+-- Own: the statuses and the texts. Those of a mirror's second image are those of the first under another word.
 use Rattle.std.specs.Prelude.{ℕ, Bool, if◌then◌else◌, List, [], ◌++◌, codes}
 use Rattle.std.specs.Fmt.{decimal}
 use Rattle.device_model.specs.Refusals.{ImageFault, LineFault, image_fault_text, line_fault_text}
@@ -9,11 +9,15 @@ use Rattle.run_model.specs.declared.outer.Outer.{Outer}
 use Rattle.run_model.specs.declared.outer.Outer.TheVariants.{Disk, Key, Script, Sink}
 
 -- Why a command is refused: its words are none that the program has a command for; the bytes of its key file are no
--- key; its image is refused; a line of its script is, the first of which has number 1; or its script is too long.
+-- key; its image is refused; the second image of a mirror is; the legs of a mirror differ in how many blocks they have,
+-- or in how many bytes a block has; a line of its script is refused, the first of which has number 1; or its script is
+-- too long.
 pub data Refusal : Type 0 where
   ByWords : Refusal
   ByKey : (refusal : KeyRefusal) → Refusal
   ByImage : (fault : ImageFault) → Refusal
+  BySecond : (fault : ImageFault) → Refusal
+  ByLegs : (a_blocks a_size b_blocks b_size : ℕ) → Refusal
   ByLine : (number : ℕ) → (fault : LineFault) → Refusal
   ByLength : Refusal
 
@@ -27,9 +31,11 @@ pub data Ending : Type 0 where
 
 -- ---- its status
 
--- An image that is refused has a status of its own.
+-- An image that is refused has a status of its own, and so have legs that are no mirror.
 abbrev pub refused_status : Refusal → ℕ
 refused_status (ByImage fault) = 3
+refused_status (BySecond fault) = 3
+refused_status (ByLegs a_blocks a_size b_blocks b_size) = 3
 refused_status other = 2
 
 abbrev pub failed_status : Outer → ℕ
@@ -55,6 +61,10 @@ abbrev pub refusal_line : Refusal → List ℕ
 refusal_line ByWords = codes "fault words\n"
 refusal_line (ByKey refusal) = codes "fault key " ++ key_refusal_text refusal ++ codes "\n"
 refusal_line (ByImage fault) = codes "fault image " ++ image_fault_text fault ++ codes "\n"
+refusal_line (BySecond fault) = codes "fault second " ++ image_fault_text fault ++ codes "\n"
+refusal_line (ByLegs a_blocks a_size b_blocks b_size) =
+    codes "fault legs " ++ decimal a_blocks ++ codes " " ++ decimal a_size
+    ++ codes " " ++ decimal b_blocks ++ codes " " ++ decimal b_size ++ codes "\n"
 refusal_line (ByLine number fault) = codes "fault line " ++ decimal number ++ codes " " ++ line_fault_text fault ++ codes "\n"
 refusal_line ByLength = codes "fault script long\n"
 

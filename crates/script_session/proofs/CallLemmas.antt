@@ -54,7 +54,8 @@ use Rattle.script_session.specs.declared.tickets.Tickets.{Tickets}
 use Rattle.script_session.specs.declared.tickets.Waiting.{Waiting}
 use Rattle.script_session.specs.LineRun.{HasAnswered}
 use Rattle.script_session.specs.Tickets.{AreInFlight, Stays, ask_by, is_of}
-use Rattle.script_session.specs.Told.{IsNoTicket, IsReplied, IsTicketOf, answer_found, answer_told, finds_fault, moved_line, refused_answer, reply_found, reply_in, reply_told, served_line}
+use Rattle.script_session.specs.Told.{IsNoTicket, IsReplied, IsTicketOf, answer_found, answer_told, moved_line, refused_answer, reply_found, reply_in, reply_told, served_line}
+use Rattle.script_text.specs.Found.{finds_fault}
 use Rattle.script_session.proofs.SplitLemmas.{IsSplit, asks-without, split_of, split_own, split_removed}
 use Rattle.script_session.proofs.TicketLemmas.{any-asks}
 use Rattle.script_session.proofs.WayLemmas.{in_flight_kept}

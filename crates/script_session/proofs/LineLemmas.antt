@@ -13,13 +13,14 @@ use Rattle.device.proofs.RunLemmas.{cut_run}
 use Rattle.script_session.specs.declared.line_answer.LineAnswer.{LineAnswer}
 use Rattle.script_session.specs.declared.stop.Stop.{Stop}
 use Rattle.script_session.specs.declared.stop.Stop.TheVariants as Stops
-use Rattle.script_session.specs.declared.tags_found.TagsFound.{TagsFound}
+use Rattle.script_text.specs.declared.tags_found.TagsFound.{TagsFound}
 use Rattle.script_session.specs.declared.tickets.Tickets.{Tickets}
-use Rattle.script_session.specs.LineRun.{HasAnswered, HasRunLine, HasStopped, IsBegunLine, IsCutLine, IsFailedLine, IsHalfTold, IsRunnable, events_of, held_with}
+use Rattle.script_session.specs.LineRun.{HasAnswered, HasRunLine, HasStopped, IsBegunLine, IsCutLine, IsFailedLine, IsHalfTold, IsRunnable, events_of}
 use Rattle.script_session.specs.Meaning.{fault_on}
 use Rattle.script_session.specs.Tickets.{AreInFlight, numbers_of}
-use Rattle.script_session.specs.Told.{answer_found, answer_told, finds_fault}
-use Rattle.stream_io.specs.Stream.{AddsPrefix}
+use Rattle.script_session.specs.Told.{answer_found, answer_told}
+use Rattle.script_text.specs.Found.{finds_fault}
+use Rattle.stream_io.specs.Stream.{AddsPrefix, held_with}
 use Rattle.script_session.proofs.TicketLemmas.{fault-is}
 
 module _ (w : Standing) (parts : DeviceParts) (a : List Content) (is : IsDevice w Conditions.Working parts a) (tickets : Tickets) (are : AreInFlight tickets parts.common.slots)

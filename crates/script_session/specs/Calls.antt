@@ -18,12 +18,12 @@ use Rattle.request_slots.specs.declared.reply.Reply.{Reply}
 use Rattle.request_slots.specs.declared.request.Request.{Request}
 use Rattle.device_model.specs.declared.actor.Actor.{Actor}
 use Rattle.script_session.specs.declared.line_answer.LineAnswer.{LineAnswer}
-use Rattle.script_session.specs.declared.line_end.LineEnd.{LineEnd}
-use Rattle.script_session.specs.declared.line_end.LineEnd.TheVariants as Ends
-use Rattle.script_session.specs.declared.meaning.MeaningFault.{MeaningFault}
+use Rattle.script_text.specs.declared.line_end.LineEnd.{LineEnd}
+use Rattle.script_text.specs.declared.line_end.LineEnd.TheVariants as Ends
+use Rattle.script_text.specs.declared.meaning_fault.MeaningFault.{MeaningFault}
 use Rattle.script_session.specs.declared.stop.Stop.{Stop}
 use Rattle.script_session.specs.declared.stop.Stop.TheVariants as Stops
-use Rattle.script_session.specs.declared.tags_found.TagsFound.{TagsFound}
+use Rattle.script_text.specs.declared.tags_found.TagsFound.{TagsFound}
 use Rattle.script_session.specs.declared.tickets.Tickets.{Tickets}
 use Rattle.script_session.specs.LineRun.{HasAnswered, HasEnded, HasRunAsk, HasRunLine, HasStopped, TellsTicket, events_of}
 use Rattle.script_session.specs.Meaning.{fault_on}

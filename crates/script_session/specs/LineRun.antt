@@ -7,20 +7,21 @@ use Rattle.device_model.specs.Mode as Modes
 use Rattle.device_model.specs.Progress.{Event, Submit, answers, event_result}
 use Rattle.device_model.specs.Script.{Ask, AskLine, ScriptLine, ServeLine, Skip, StepLine, TakeLine, finish_all_events, last_answer, line_events, line_outcome, meaning_fault, told_fault, told_text}
 use Rattle.device_model.specs.Submission.{Submission}
-use Rattle.stream_io.specs.Stream.{AddsPrefix, with_bytes}
+use Rattle.stream_io.specs.Stream.{AddsPrefix, held_with}
 use Rattle.device.specs.declared.mode.DeviceParts.{DeviceParts}
 use Rattle.device.specs.Answers.{HasNoWork}
 use Rattle.device_parts.specs.Device.{Standing}
 use Rattle.device.specs.Run.{HasBegun, HasFailed, HasRun, IsCutOff}
 use Rattle.request_slots.specs.declared.reply.Reply.{Reply}
 use Rattle.script_session.specs.declared.line_answer.LineAnswer.{LineAnswer}
-use Rattle.script_session.specs.declared.line_end.LineEnd.{LineEnd}
-use Rattle.script_session.specs.declared.line_end.LineEnd.TheVariants as Ends
+use Rattle.script_text.specs.declared.line_end.LineEnd.{LineEnd}
+use Rattle.script_text.specs.declared.line_end.LineEnd.TheVariants as Ends
 use Rattle.script_session.specs.declared.stop.Stop.{Stop}
 use Rattle.script_session.specs.declared.stop.Stop.TheVariants as Stops
-use Rattle.script_session.specs.declared.tags_found.TagsFound.{TagsFound}
-use Rattle.script_session.specs.Meaning.{meaning_of}
-use Rattle.script_session.specs.Told.{IsReplied, IsTicketOf, answer_found, answer_told, finds_fault, reply_in}
+use Rattle.script_text.specs.declared.tags_found.TagsFound.{TagsFound}
+use Rattle.script_text.specs.Meaning.{meaning_of}
+use Rattle.script_session.specs.Told.{IsReplied, IsTicketOf, answer_found, answer_told, reply_in}
+use Rattle.script_text.specs.Found.{finds_fault}
 
 -- ---- some events
 
@@ -73,10 +74,6 @@ ServesNone mode (StepLine actor) = HasNoWork mode actor
 -- What a line prints.
 abbrev pub text_of : Standing → ScriptLine → List ℕ
 text_of w line = (line_outcome w.format w.state line).text
-
--- What a sink holds behind a text, where it tells that.
-abbrev pub held_with : List ℕ → Option (List ℕ) → Option (List ℕ)
-held_with text held = option_map (with_bytes text) held
 
 -- The line is done, and its text is told.
 pub record HasRunLine (w : Standing) (line : ScriptLine) (found : TagsFound) (parts : DeviceParts)

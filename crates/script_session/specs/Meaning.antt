@@ -3,15 +3,6 @@ use Rattle.std.specs.Prelude.{ℕ, ◌/◌, ◌%◌, ◌==◌, if◌then◌else�
 use Rattle.std.specs.List.{list_any}
 use Rattle.device_model.specs.Script as script
 use Rattle.device_model.specs.Script.{Ask, ScriptLine, range_fault, stretches_length}
-use Rattle.script_session.specs.declared.meaning.MeaningFault.{MeaningFault}
-use Rattle.script_session.specs.declared.meaning.MeaningFault.TheVariants as faults
-
--- The fault of a line's meaning that this is.
-abbrev pub meaning_of : MeaningFault → script.MeaningFault
-meaning_of (faults.Ticket ticket) = script.WrongTicket ticket
-meaning_of (faults.Length length) = script.WrongLength length
-meaning_of (faults.Count count) = script.WrongCount count
-meaning_of (faults.Range first count) = script.WrongRange first count
 
 -- Why a request is refused on so many blocks of so many bytes, if it is.
 abbrev pub ask_fault_on : (blocks size : ℕ) → Ask → Option script.MeaningFault

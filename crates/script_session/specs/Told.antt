@@ -16,13 +16,8 @@ use Rattle.device_parts.specs.declared.answers.Served.{Served}
 use Rattle.device_parts.specs.declared.answers.Served.TheVariants as serves
 use Rattle.script_session.specs.declared.line_answer.LineAnswer.{LineAnswer}
 use Rattle.script_session.specs.declared.line_answer.LineAnswer.TheVariants.{Nothing, Ticket, SlotsFull, ReadOnly, HeldBy, NoRoom, Did, Done, Idle, NotDone, Replied}
-use Rattle.script_session.specs.declared.tags_found.TagsFound.{TagsFound}
-use Rattle.script_session.specs.declared.tags_found.TagsFound.TheVariants.{Matching, Differing}
-
--- The line tells a block whose stored tag is not the tag of its bytes.
-abbrev pub finds_fault : TagsFound → Bool
-finds_fault Matching = false
-finds_fault Differing = true
+use Rattle.script_text.specs.declared.tags_found.TagsFound.{TagsFound}
+use Rattle.script_text.specs.declared.tags_found.TagsFound.TheVariants.{Matching, Differing}
 
 -- The text of a reply to a request for `count` blocks from block `first` on. Those do not show in a fault.
 abbrev pub reply_told : (first count : ℕ) → Reply → List ℕ

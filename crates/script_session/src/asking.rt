@@ -14,7 +14,7 @@ use std::alloc::Global;
 /// # Errors
 ///
 /// - `Memory`: there is none for its bytes.
-pub(crate) fn request_of(alloc: Global, ask: &Ask<'_>, block_size: usize) -> Result<Request, Memory>
+pub fn request_of(alloc: Global, ask: &Ask<'_>, block_size: usize) -> Result<Request, Memory>
     requires { 0 < block_size }
 
     ensures { IfOk result (λ request. as_submission request ≡ submission_of block_size (ask_of ask.now)) }

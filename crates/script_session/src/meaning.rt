@@ -3,29 +3,17 @@ ghost use Rattle.std.specs.Prelude.{◌≡◌, ◌<◌, ◌%◌, ◌/◌, ◌==�
 ghost use Rattle.std.specs.Option.{option_map};
 ghost use Rattle.device_model.specs.Script.{WrongLength, range_fault};
 ghost use Rattle.script_text.specs.Line.{ask_of, line_of};
-ghost use Rattle.script_session.specs.Meaning.{ask_fault_on, fault_on, meaning_of, ticket_fault_among};
+ghost use Rattle.script_session.specs.Meaning.{ask_fault_on, fault_on, ticket_fault_among};
+ghost use Rattle.script_text.specs.Meaning.{meaning_of};
 ghost use Rattle.script_session.specs.Tickets.{numbers_of};
 
 use crate::Tickets;
-use script_text::{Ask, Line};
+use script_text::{Ask, Line, MeaningFault};
 
 /// How many blocks a line may move.
 ///
 /// Own: 1024.
 const MOST_BLOCKS: u128 = 1024;
-
-/// Why a line that was read is refused. The first that holds is told.
-#[derive(Clone, Copy, Debug, PartialEq, Eq)]
-pub enum MeaningFault {
-    /// No request in flight has this ticket.
-    Ticket { ticket: u64 },
-    /// So many bytes are no whole number of blocks.
-    Length { length: u128 },
-    /// So many blocks are more than a line may move.
-    Count { count: u128 },
-    /// It has no block, or one that the device has not.
-    Range { first: u64, count: u64 },
-}
 
 /// Why a line is refused on a device of `blocks` blocks of `block_size` bytes, if it is, where these tickets are
 /// in flight.
@@ -58,7 +46,7 @@ fn ticket_fault(ticket: u64, tickets: &Tickets) -> Option<MeaningFault>
 }
 
 /// Why a request is refused, if it is.
-fn ask_fault(ask: &Ask<'_>, blocks: u64, block_size: usize) -> Option<MeaningFault>
+pub fn ask_fault(ask: &Ask<'_>, blocks: u64, block_size: usize) -> Option<MeaningFault>
     requires { 0 < block_size }
 
     ensures { option_map meaning_of result ≡ ask_fault_on blocks block_size (ask_of ask.now) }

@@ -1,15 +1,13 @@
 //! Tells what a line was answered.
 ghost use Rattle.std.specs.Prelude.{◌≡◌, ◌≢◌, ◌≤◌, [], Err, IfOk, IfErr, MatchOption, OnOk, OnErr, Result};
 ghost use Rattle.disk_model.specs.Causes.{Rose};
-ghost use Rattle.stream_io.specs.Stream.{AddsPrefix};
+ghost use Rattle.stream_io.specs.Stream.{AddsPrefix, held_with};
 ghost use Rattle.script_text.specs.Told.{told_text};
-ghost use Rattle.script_session.specs.LineRun.{held_with};
 ghost use Rattle.script_session.specs.Told.{answer_found, answer_told, reply_found, reply_told};
 
-use crate::TagsFound;
 use crate::line_answer::LineAnswer;
 use request_slots::Reply;
-use script_text::{Told, reply_text};
+use script_text::{TagsFound, Told, reply_text};
 use sector_disk::Memory;
 use std::alloc::Global;
 use stream_io::{Sink, put_all};

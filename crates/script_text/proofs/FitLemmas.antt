@@ -44,7 +44,7 @@ fit_or_fault (place ∷ places) (word ∷ words) = first (fits_or_not place word
 -- ---- lines
 
 -- The words are those of a request that can be written down.
-abbrev AreAsk : List (List ℕ) → Type 0
+abbrev pub AreAsk : List (List ℕ) → Type 0
 AreAsk words = (ask : Ask) × (words ≡ ask_words ask) × HasValues ask
 
 -- The words are those of a line that can be written down.
@@ -126,14 +126,14 @@ verb_line StepVerb words fit = step_line words fit
 
 -- ---- for callers
 
-abbrev HasFaultOfStart : List (List ℕ) → Type 0
+abbrev pub HasFaultOfStart : List (List ℕ) → Type 0
 HasFaultOfStart words = (fault : WordsFault) × IsFaultOfStart words fault
 
 abbrev pub HasFaultOfWords : List (List ℕ) → Type 0
 HasFaultOfWords words = (fault : WordsFault) × IsFaultOfWords words fault
 
 -- What stands behind `start` is a request or has a fault.
-ask_or_fault : (words : List (List ℕ)) → AreAsk words ⊎ HasFaultOfStart words
+pub ask_or_fault : (words : List (List ℕ)) → AreAsk words ⊎ HasFaultOfStart words
 ask_or_fault [] = inr (MissingWord, refl)
 ask_or_fault (word ∷ words) = elim (asks_or_not word) [
   | inl (verb, asking, is) ↦ elim (fit_or_fault (places_of verb) words) [

@@ -10,5 +10,6 @@ pub mod TextLemmas
 pub mod DecideLemmas
 pub mod FitLemmas
 pub mod TotalLemmas
+pub mod AskLineLemmas
 pub mod QuietLemmas
 mod Worked

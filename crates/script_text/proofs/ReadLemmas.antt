@@ -1,11 +1,13 @@
 -- What the words of a line say, and its bytes with them.
-use Rattle.std.proofs.Common.{◌≡◌, ◌≢◌, ℕ, ◌≤◌, List, [], ◌∷◌, length, inl, inr, refl, true, false, sym, ◌∙◌, subst, Result, Ok, Err}
+use Rattle.std.proofs.Common.{◌≡◌, ◌≢◌, ℕ, ◌≤◌, List, [], ◌∷◌, length, inl, inr, refl, true, false, sym, ◌∙◌, subst, Option, None, Some, Result, Ok, Err}
 use Rattle.std.specs.Prelude.{IfOk, IfErr}
 use Rattle.device_model.specs.Grammar.{WordPlace, NumberPlace, BytePlace, StretchesPlace, ActorPlace, FuaPlace, IsFaultAt, IsFaultOf, IsFaultOfStart, IsFaultOfWords, IsReadAs, IsLine, IsText, IsSkipped, IsWritable, Says, misfit, most_line, line_words, ask_words, places_of, words_in}
 use Rattle.device_model.specs.LineFault.{WordsFault, TooLong, NotText}
 use Rattle.device_model.specs.Script.{ScriptLine, Skip, AskLine, ServeLine, TakeLine, StepLine, Ask, Fill, Write, Read, Flush}
+use Rattle.script_text.specs.declared.line.Ask as asked
 use Rattle.script_text.specs.declared.line.Line.{Line}
 use Rattle.script_text.specs.declared.line.LineFault.{LineFault}
+use Rattle.script_text.specs.AskLine.{AreAskWords, HasAskFault, IsAskFaultOf, IsAskLine, IsAskReading, ask_reading_of, asks_of}
 use Rattle.script_text.specs.Line.{line_of, fault_of, read_of}
 
 -- The fault is told by words.
@@ -60,7 +62,7 @@ some_fault [] fault bad is = bad
 some_fault (word ∷ words) fault bad is = cc
 
 -- Words of a line are some, but where it is skipped.
-first_word : (ask : Ask) → ask_words ask ≢ []
+pub first_word : (ask : Ask) → ask_words ask ≢ []
 first_word (Fill first count byte fua) is = cc
 first_word (Write first stretches fua) is = cc
 first_word (Read first count) is = cc
@@ -109,3 +111,46 @@ line_from_read bytes (Err fault) is = tt
 pub fault_from_read : (bytes : List ℕ) (result : Result Line LineFault) → IsReadAs bytes (read_of result) → IfErr result (λ fault. IsFaultOf bytes (fault_of fault))
 fault_from_read bytes (Ok line) is = tt
 fault_from_read bytes (Err fault) is = is
+
+-- ---- requests alone
+
+-- What few bytes, all of them text, ask for where they are no comment.
+pub ask_by_words : (bytes rest : List ℕ) (asks : Option Ask) → length bytes ≤ most_line → IsText bytes → ((tail : List ℕ) → bytes ≢ 35 ∷ tail)
+    → rest ≡ bytes → AreAskWords (words_in rest) asks → IsAskLine bytes asks
+ask_by_words bytes rest None short text other same are =
+    line_by_words bytes Skip short text other (subst (λ (bs : List ℕ). words_in bs ≡ []) same are) tt
+ask_by_words bytes rest (Some ask) short text other same (words, values) =
+    line_by_words bytes (AskLine false ask) short text other (subst (λ (bs : List ℕ). words_in bs ≡ ask_words ask) same words) values
+
+ask_fault_by : (bytes : List ℕ) (fault : WordsFault) → length bytes ≤ most_line → IsText bytes → ¬ IsSkipped bytes → IsFaultOfStart (words_in bytes) fault
+    → IsByWords fault → IsAskFaultOf bytes fault
+unfolding IsByWords
+ask_fault_by bytes TooLong short text kept bad by = absurd by
+ask_fault_by bytes NotText short text kept bad by = absurd by
+ask_fault_by bytes fault short text kept bad by = (short, text, kept, bad)
+
+-- Or they have the fault of their words.
+pub ask_refused_by_words : (bytes rest : List ℕ) (fault : WordsFault) → length bytes ≤ most_line → IsText bytes → ((tail : List ℕ) → bytes ≢ 35 ∷ tail)
+    → rest ≡ bytes → HasAskFault (words_in rest) fault → IsAskFaultOf bytes fault
+ask_refused_by_words bytes rest fault short text other same has =
+    let own = subst (λ (bs : List ℕ). HasAskFault (words_in bs) fault) same has in
+    ask_fault_by bytes fault short text (kept bytes (words_in bytes) other refl own.0) own.1 (by_start (words_in bytes) fault own.1)
+
+-- So they are read.
+pub ask_read_by_words : (bytes rest : List ℕ) (result : Result (Option asked.Ask) LineFault) → length bytes ≤ most_line → IsText bytes
+    → ((tail : List ℕ) → bytes ≢ 35 ∷ tail) → rest ≡ bytes → IfOk result (λ asks. AreAskWords (words_in rest) (asks_of asks))
+    → IfErr result (λ fault. HasAskFault (words_in rest) (fault_of fault)) → IsAskReading bytes (ask_reading_of result)
+ask_read_by_words bytes rest (Ok asks) short text other same are fault = ask_by_words bytes rest (asks_of asks) short text other same are
+ask_read_by_words bytes rest (Err fault) short text other same asks bad =
+    ask_refused_by_words bytes rest (fault_of fault) short text other same bad
+
+-- What is read says what it is.
+pub asks_from_reading : (bytes : List ℕ) (result : Result (Option asked.Ask) LineFault) → IsAskReading bytes (ask_reading_of result)
+    → IfOk result (λ asks. IsAskLine bytes (asks_of asks))
+asks_from_reading bytes (Ok asks) is = is
+asks_from_reading bytes (Err fault) is = tt
+
+pub ask_fault_from_reading : (bytes : List ℕ) (result : Result (Option asked.Ask) LineFault) → IsAskReading bytes (ask_reading_of result)
+    → IfErr result (λ fault. IsAskFaultOf bytes (fault_of fault))
+ask_fault_from_reading bytes (Ok asks) is = tt
+ask_fault_from_reading bytes (Err fault) is = is

@@ -7,6 +7,7 @@ use Rattle.hex.proofs.HexLemmas.{length-encode_with}
 use Rattle.device_model.specs.Reply.{Bytes, TagFault}
 use Rattle.device_model.specs.Transcript.{read_text, write_text}
 use Rattle.device_model.proofs.StretchesLemmas.{length-stretches_text-le}
+use Rattle.script_text.specs.Told.{mirror_fault_text}
 
 pub length-write_text : (first count : ℕ) → length (write_text first count) ≡ 11 + length (decimal first) + length (decimal count)
 length-write_text first count = simp length-append (omega arith)
@@ -22,6 +23,16 @@ pub length-fault_text : (block : ℕ) (stored computed : List ℕ)
 length-fault_text block stored computed =
     let one = length-encode_with lower_digits stored in
     let other = length-encode_with lower_digits computed in
+    simp length-append (omega arith)
+
+pub length-mirror_fault_text : (block : ℕ) (stored computed second_stored second_computed : List ℕ)
+    → length (mirror_fault_text block stored computed second_stored second_computed)
+    ≡ 56 + length (decimal block) + 2 * ((length stored + length computed) + (length second_stored + length second_computed))
+length-mirror_fault_text block stored computed second_stored second_computed =
+    let one = length-encode_with lower_digits stored in
+    let other = length-encode_with lower_digits computed in
+    let third = length-encode_with lower_digits second_stored in
+    let last = length-encode_with lower_digits second_computed in
     simp length-append (omega arith)
 
 -- ---- bounds of what was found

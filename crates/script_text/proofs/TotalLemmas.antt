@@ -8,10 +8,11 @@ use Rattle.script_text.proofs.DecideLemmas.{Decided, less_or_not, all_or_not}
 use Rattle.script_text.proofs.FitLemmas.{line_or_fault}
 use Rattle.script_text.proofs.ReadLemmas.{line_by_words, refused_by_words}
 
-abbrev IsTextByte : ℕ → Type 0
+abbrev pub IsTextByte : ℕ → Type 0
 IsTextByte byte = (32 ≤ byte) × (byte ≤ 126)
 
-text_byte : (byte : ℕ) → Decided (IsTextByte byte)
+-- A byte is text or it is not.
+pub text_byte : (byte : ℕ) → Decided (IsTextByte byte)
 text_byte byte = both (less_or_not byte 32) (less_or_not 126 byte)
   where
     both : Decided (byte < 32) → Decided (126 < byte) → Decided (IsTextByte byte)
@@ -20,10 +21,10 @@ text_byte byte = both (less_or_not byte 32) (less_or_not 126 byte)
     both (inr low) (inr high) = inl (omega (arith, low), omega (arith, high))
 
 -- A line begins with `#`, or it does not.
-abbrev IsComment : List ℕ → Type 0
+abbrev pub IsComment : List ℕ → Type 0
 IsComment bytes = (rest : List ℕ) × (bytes ≡ 35 ∷ rest)
 
-comment : (bytes : List ℕ) → Decided (IsComment bytes)
+pub comment : (bytes : List ℕ) → Decided (IsComment bytes)
 comment [] = inr (λ (rest, is). absurd (cc))
 comment (byte ∷ bytes) = first (less_or_not byte 35) (less_or_not 35 byte)
   where

@@ -1,7 +1,10 @@
 pub mod Runs
 pub mod Line
+pub mod AskLine
 pub mod Verb
 pub mod Singles
 pub mod Told
+pub mod Meaning
+pub mod Found
 pub mod Plain
 pub mod Laws

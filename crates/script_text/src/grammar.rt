@@ -5,6 +5,8 @@
 ghost use Rattle.std.specs.Prelude.{◌≡◌, ◌^◌, ◌<◌, ◌≤◌, [], ◌∷◌, IfOk, IfErr, IsTrue, ◌↔◌, codes};
 ghost use Rattle.std.specs.Fmt.{decimal};
 ghost use Rattle.device_model.specs.Grammar.{HasValues, IsFaultAt, IsFaultOf, IsFaultOfStart, IsFaultOfWords, IsLine, IsReadAs, IsText, IsWritable, ReadLine, ask_words, line_words, places_of, verb_word, words_in, NumberPlace, FillVerb, WriteVerb, ReadVerb};
+ghost use Rattle.script_text.specs.AskLine.{AreAskWords, AskReading, HasAskFault, IsAskFaultOf, IsAskLine};
+ghost use Rattle.script_text.specs.AskLine.{IsAskReading, ask_reading_of, asks_of};
 ghost use Rattle.script_text.specs.Line.{ask_of, fault_of, line_of, read_of};
 ghost use Rattle.script_text.specs.Verb.{ask_verb_of, verb_of};
 
@@ -40,6 +42,31 @@ pub fn read_line(bytes: &[u8]) -> Result<Line<'_>, LineFault<'_>>
     read_words(Words::new(bytes))
 }
 
+/// The request that a line without `start` asks for, or none where the line is skipped. It takes no memory, as
+/// `read_line`, and what is read is all that the grammar says of the bytes.
+///
+/// # Errors
+///
+/// Those of `LineFault`: the first that holds. A word with which no request begins, `start` among them, is wrong.
+///
+/// Own: of the grammar of scripts, `docs/COMMANDS.md`, the requests alone.
+pub fn read_ask_line(bytes: &[u8]) -> Result<Option<Ask<'_>>, LineFault<'_>>
+    ensures asks { IfOk result (λ asks. IsAskLine bytes.now (asks_of asks)) }
+    ensures fault { IfErr result (λ fault. IsAskFaultOf bytes.now (fault_of fault)) }
+    ensures exact { (read : AskReading) → IsAskReading bytes.now read → read ≡ ask_reading_of result }
+{
+    if bytes.len() > MOST_LINE {
+        return Err(LineFault::TooLong);
+    }
+    if !is_text(bytes) {
+        return Err(LineFault::NotText);
+    }
+    if bytes.starts_with(b"#") {
+        return Ok(None);
+    }
+    read_ask_words(Words::new(bytes))
+}
+
 /// Whether each byte is a space or one that may be printed.
 fn is_text(bytes: &[u8]) -> bool
     ensures { IsTrue result ↔ IsText bytes.now }
@@ -64,6 +91,21 @@ fn read_words<'a>(mut words: Words<'a>) -> Result<Line<'a>, LineFault<'a>>
         return Err(LineFault::WrongWord { word });
     };
     read_behind(verb, &mut words)
+}
+
+/// The request of these words, or none where there are none.
+fn read_ask_words<'a>(mut words: Words<'a>) -> Result<Option<Ask<'a>>, LineFault<'a>>
+    ensures asks { IfOk result (λ asks. AreAskWords (words_in words.entry.rest.now) (asks_of asks)) }
+    ensures fault { IfErr result (λ fault. HasAskFault (words_in words.entry.rest.now) (fault_of fault)) }
+{
+    let Some(word) = words.take_word() else {
+        return Ok(None);
+    };
+    let Some(verb) = ask_verb_by_word(word) else {
+        return Err(LineFault::WrongWord { word });
+    };
+    let ask = read_ask(verb, &mut words)?;
+    Ok(Some(ask))
 }
 
 /// The request behind `start`.

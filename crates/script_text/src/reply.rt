@@ -3,7 +3,7 @@ ghost use Rattle.std.specs.Prelude.{◌≡◌, ◌+◌, ◌≤◌, [], ◌∷◌
 ghost use Rattle.std.specs.Fmt.{decimal};
 ghost use Rattle.device_model.specs.Reply.{Bytes, TagFault};
 ghost use Rattle.device_model.specs.Transcript.{read_text, write_text};
-ghost use Rattle.script_text.specs.Told.{told_text};
+ghost use Rattle.script_text.specs.Told.{mirror_fault_text, told_text};
 
 use crate::pieces::{put_bytes, put_hex, put_number};
 use crate::stretches::{MOST_FOR_A_BYTE, put_stretches};
@@ -13,6 +13,9 @@ use std::alloc::Global;
 
 /// The most bytes of a text beside the runs of a read and the digits of tags: two numbers of 20 digits, and words.
 const MOST_BESIDE: usize = 72;
+
+/// The words by which the fault of a mirror tells the tags of its second leg.
+const MOST_OF_SECOND: usize = 25;
 
 /// The line that is printed of this, with its newline. The runs of a read are the longest ones.
 ///
@@ -54,6 +57,20 @@ fn room_for(told: &Told) -> Option<usize>
             let digits = stored.len().checked_add(computed.len())?.checked_mul(2)?;
             room_beside(block, 0, digits)
         }
+        Told::MirrorFault {
+            block,
+            stored,
+            computed,
+            second_stored,
+            second_computed,
+        } => {
+            let first = stored.len().checked_add(computed.len())?;
+            let second = second_stored.len().checked_add(second_computed.len())?;
+            let digits = first.checked_add(second)?.checked_mul(2)?;
+            let more = digits.checked_add(MOST_OF_SECOND)?;
+            room_beside(block, 0, more)
+        }
+        Told::Level { written } => room_beside(written, 0, 0),
         Told::Ticket { ticket } => room_beside(ticket, 0, 0),
         Told::HeldBy { by } => room_beside(by, 0, 0),
         Told::Flush
@@ -96,6 +113,21 @@ fn put_told(text: &mut Vec<u8>, told: &Told)
             stored,
             computed,
         } => put_fault(text, block, stored, computed),
+        Told::MirrorFault {
+            block,
+            stored,
+            computed,
+            second_stored,
+            second_computed,
+        } => put_mirror_fault(
+            text,
+            block,
+            stored,
+            computed,
+            second_stored,
+            second_computed,
+        ),
+        Told::Level { written } => put_numbered(text, b"level ", written),
         Told::Ticket { ticket } => put_numbered(text, b"ticket ", ticket),
         Told::Did => put_bytes(text, b"did\n"),
         Told::Done => put_bytes(text, b"done\n"),
@@ -153,6 +185,34 @@ fn put_fault(text: &mut Vec<u8>, block: u64, stored: &[u8], computed: &[u8])
     put_hex(text, stored);
     put_bytes(text, b" computed ");
     put_hex(text, computed);
+    put_bytes(text, b"\n");
+}
+
+/// Appends the text of a read that found a block of a mirror whose stored tag is on neither leg that of its bytes.
+fn put_mirror_fault(
+    text: &mut Vec<u8>,
+    block: u64,
+    stored: &[u8],
+    computed: &[u8],
+    second_stored: &[u8],
+    second_computed: &[u8],
+)
+    requires room { vec_len text.old + length (mirror_fault_text block stored.now computed.now second_stored.now
+        second_computed.now) ≤ vec_capacity text.old }
+
+    ensures written { text.new.items ≡ text.old.items ++ mirror_fault_text block stored.now computed.now
+        second_stored.now second_computed.now }
+{
+    put_bytes(text, b"fault block ");
+    put_number(text, block);
+    put_bytes(text, b" stored ");
+    put_hex(text, stored);
+    put_bytes(text, b" computed ");
+    put_hex(text, computed);
+    put_bytes(text, b" second stored ");
+    put_hex(text, second_stored);
+    put_bytes(text, b" computed ");
+    put_hex(text, second_computed);
     put_bytes(text, b"\n");
 }
 

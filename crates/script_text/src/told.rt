@@ -22,6 +22,18 @@ pub enum Told<'a> {
         stored: &'a [u8],
         computed: &'a [u8],
     },
+    /// A read of a mirror found a block whose stored tag is on neither leg the one computed of its bytes.
+    MirrorFault {
+        block: u64,
+        stored: &'a [u8],
+        computed: &'a [u8],
+        second_stored: &'a [u8],
+        second_computed: &'a [u8],
+    },
+    /// The levelling of a mirror has written so many blocks.
+    Level {
+        written: u64,
+    },
     /// A request was submitted, and has this ticket.
     Ticket {
         ticket: u64,

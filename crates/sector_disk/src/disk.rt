@@ -7,6 +7,7 @@ ghost use Rattle.disk_model.specs.Causes.{HasCause};
 ghost use Rattle.disk_model.specs.Disk.{Content, IsImage, IsRun, Reads, AddsSome, with_run, newest_only, last_image};
 ghost use Rattle.disk_model.specs.Identity.{Binding, DiskIdentity, IsBound, IsBoundTo, NamedDisk};
 ghost use Rattle.disk_model.specs.Moments.{EachSince, HasNow, IsChangedBy, content_now};
+ghost use Rattle.sector_disk.specs.Faults.{one_more};
 
 use thiserror::Error;
 
@@ -67,6 +68,9 @@ pub trait Disk: Named {
     /// clause speaks of it.
     ghost moments: { Self → List Content };
 
+    /// How often it was read, calls that failed included. It stays at 2^64 - 1 once it is there.
+    ghost reads: { Self → ℕ };
+
     /// What has this name: what the disk will be once it is bound to it, and what it is where it is bound to it.
     ghost named: { Self → List ℕ → NamedDisk };
 
@@ -90,6 +94,7 @@ pub trait Disk: Named {
         ensures cause { HasCause (Self.faults self.old) (Self.faults self.new) result }
 
         ensures identity { identity self.new ≡ identity self.old }
+        ensures counted { reads self.new ≡ one_more (reads self.old) }
         ensures kept { moments self.new ≡ moments self.old };
 
     /// Writes whole sectors from sector `at` on. They become candidates, one after the other in any order.
@@ -107,6 +112,7 @@ pub trait Disk: Named {
         ensures cause { HasCause (Self.faults self.old) (Self.faults self.new) result }
 
         ensures identity { identity self.new ≡ identity self.old }
+        ensures unread { reads self.new ≡ reads self.old }
 
         ensures moments { EachSince (AddsSome at bytes.now) (moments self.old) (moments self.new) };
 
@@ -124,6 +130,7 @@ pub trait Disk: Named {
         ensures err { OnErr result (moments self.new ≡ moments self.old) }
 
         ensures identity { identity self.new ≡ identity self.old }
+        ensures unread { reads self.new ≡ reads self.old }
 
         ensures moments { EachSince (λ start c. c ≡ newest_only start)
             (moments self.old) (moments self.new) };

@@ -30,6 +30,8 @@ pub struct MemDisk {
     room: usize,
     stop: Option<u64>,
     plan: FaultPlan,
+    // How often it was read.
+    reads: u64,
     ghost base_size: { length base.items ≡ 512 * sectors },
     ghost latest_size: { length latest.items ≡ 512 * sectors },
     ghost has_room: { room ≤ vec_capacity events },
@@ -64,6 +66,7 @@ impl MemDisk {
             room,
             stop: None,
             plan: FaultPlan::new(),
+            reads: 0,
         })
     }
 
@@ -97,6 +100,7 @@ impl MemDisk {
             room: self.room,
             stop: None,
             plan: FaultPlan::new(),
+            reads: 0,
         })
     }
 
@@ -148,6 +152,7 @@ impl Named for MemDisk {
 
 impl Disk for MemDisk {
     ghost use Rattle.sector_disk.specs.MemDisk.{record_of, moments_told, named_by, IsRefused};
+    ghost use Rattle.sector_disk.specs.Faults.{one_more};
     ghost use Rattle.sector_disk.specs.MemDisk.{sectors_left, after_call, with_writes, with_sync};
     ghost use Rattle.sector_disk.specs.ReadsAnImage.{candidates_are_whole, last_image_is_image};
     ghost use Rattle.disk_model.specs.Identity.{AnyName, NamedDisk};
@@ -156,6 +161,8 @@ impl Disk for MemDisk {
     ghost identity = { λ d. record { name = AnyName; sectors = (record_of d).sectors } };
 
     ghost moments = { λ d. moments_told (record_of d) };
+
+    ghost reads = { λ d. d.reads };
 
     ghost named = { λ d name. named_by (record_of d) };
 
@@ -185,8 +192,10 @@ impl Disk for MemDisk {
 
         ensures identity { (record_of self.new).sectors ≡ (record_of self.old).sectors }
         ensures kept { moments_told (record_of self.new) ≡ moments_told (record_of self.old) }
+        ensures counted { self.new.reads ≡ one_more self.old.reads }
         ensures recorded { record_of self.new ≡ after_call result (record_of self.old) }
     {
+        self.reads = self.reads.saturating_add(1);
         begin(&mut self.plan, self.stop)?;
         read_latest(&self.latest, at, buffer);
         Ok(())
@@ -209,6 +218,7 @@ impl Disk for MemDisk {
             at bytes.now (after_call result (record_of self.old)) }
 
         ensures identity { (record_of self.new).sectors ≡ (record_of self.old).sectors }
+        ensures unread { self.new.reads ≡ self.old.reads }
 
         ensures moments { EachSince (AddsSome at bytes.now)
             (moments_told (record_of self.old)) (moments_told (record_of self.new)) }
@@ -238,6 +248,7 @@ impl Disk for MemDisk {
         ensures failed { OnErr result (record_of self.new ≡ after_call result (record_of self.old)) }
 
         ensures identity { (record_of self.new).sectors ≡ (record_of self.old).sectors }
+        ensures unread { self.new.reads ≡ self.old.reads }
 
         ensures moments { EachSince (λ start c. c ≡ newest_only start)
             (moments_told (record_of self.old)) (moments_told (record_of self.new)) }

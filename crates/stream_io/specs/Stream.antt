@@ -24,3 +24,7 @@ pub record AddsPrefix (bytes : List ℕ) (old new : Option (List ℕ)) : Type 0 
   pub count : ℕ
   pub short : count < length bytes
   pub held : new ≡ option_map (with_bytes (take count bytes)) old
+
+-- What a sink holds behind a text, where it tells that.
+abbrev pub held_with : List ℕ → Option (List ℕ) → Option (List ℕ)
+held_with text held = option_map (with_bytes text) held

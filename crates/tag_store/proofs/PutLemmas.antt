@@ -4,7 +4,7 @@ use Rattle.std.proofs.lemmas.Bool.{cases_Bool, cases_eq, cases_lt, cases_order, 
 use Rattle.std.proofs.lemmas.List.{get_or_append_left, get_or-append_right, get_or-take, get_or-drop}
 use Rattle.disk_model.specs.Disk.{Image}
 use Rattle.image_model.specs.Cells.{Cell, placed_cells_of}
-use Rattle.image_model.specs.Geometry.{Geometry, IsGeometry, tag_at}
+use Rattle.image_model.specs.Geometry.{Geometry, IsGeometry, tag_at, byte_place}
 use Rattle.image_model.proofs.GeometryLemmas.{placed, tags_in_order, tag_at-inside, data_at-inside}
 use Rattle.place_model.specs.Tags.{tag_byte_at, with_block_tag}
 use Rattle.place_model.proofs.PlacedLemmas.{placed_tag, placed_tag-byte, placed_tag-length}
@@ -130,7 +130,7 @@ module _ (at from : ℕ) (bytes : List ℕ) (image : Image) where
 
 -- The bytes of tags of two blocks lie apart.
 tag_bytes-apart : (g : Geometry) (sectors b c i j : ℕ) → IsGeometry g sectors → b ≢ c → i < g.shape.tag_size → j < g.shape.tag_size
-    → (tag_at g c).0 + ((tag_at g c).1 + j) / 512 ≡ (tag_at g b).0 + ((tag_at g b).1 + i) / 512 → ((tag_at g c).1 + j) % 512 ≡ ((tag_at g b).1 + i) % 512 → ⊥
+    → (tag_at g c).sector + ((tag_at g c).byte + j) / 512 ≡ (tag_at g b).sector + ((tag_at g b).byte + i) / 512 → ((tag_at g c).byte + j) % 512 ≡ ((tag_at g b).byte + i) % 512 → ⊥
 tag_bytes-apart g sectors b c i j geometry other i_low j_low sector place = elim (cases_order b c) [
   | inl same ↦ other same
   | inr (inl less) ↦ let before = tags_in_order g b c (placed g sectors b geometry) (placed g sectors c geometry) less in omega arith
@@ -138,26 +138,26 @@ tag_bytes-apart g sectors b c i j geometry other i_low j_low sector place = elim
 ]
 
 module _ (g : Geometry) (sectors block : ℕ) (tag : List ℕ) (image : Image) (geometry : IsGeometry g sectors) (whole : AreWhole sectors image) (low : block < g.blocks) (size : length tag ≡ g.shape.tag_size) where
-  begins : (tag_at g block).1 < 512
+  begins : (tag_at g block).byte < 512
   begins = (tag_at-inside g sectors block geometry low).2
 
   short : length tag ≤ 512
   short = let most = geometry.tag_size.1 in omega arith
 
-  first_whole : length (image (tag_at g block).0) ≡ 512
+  first_whole : length (image (tag_at g block).sector) ≡ 512
   first_whole =
       let tag_ = tag_at-inside g sectors block geometry low in
       let data_ = data_at-inside g sectors block geometry low in
-      whole (tag_at g block).0 (let some = geometry.tag_size.0 in omega arith)
+      whole (tag_at g block).sector (let some = geometry.tag_size.0 in omega arith)
 
-  next_whole : 512 < (tag_at g block).1 + length tag → length (image ((tag_at g block).0 + 1)) ≡ 512
+  next_whole : 512 < (tag_at g block).byte + length tag → length (image ((tag_at g block).sector + 1)) ≡ 512
   next_whole past =
       let tag_ = tag_at-inside g sectors block geometry low in
       let data_ = data_at-inside g sectors block geometry low in
-      whole ((tag_at g block).0 + 1) (omega arith)
+      whole ((tag_at g block).sector + 1) (omega arith)
 
   pub with_tag-length : (sector : ℕ) → length (with_tag g block tag image sector) ≡ length (image sector)
-  with_tag-length sector = length-with_span (tag_at g block).0 (tag_at g block).1 tag image begins short first_whole next_whole sector
+  with_tag-length sector = length-with_span (tag_at g block).sector (tag_at g block).byte tag image begins short first_whole next_whole sector
 
   pub with_tag-whole : AreWhole sectors (with_tag g block tag image)
   with_tag-whole sector inside = with_tag-length sector ∙ whole sector inside
@@ -165,28 +165,28 @@ module _ (g : Geometry) (sectors block : ℕ) (tag : List ℕ) (image : Image) (
   pub with_tag-rest : (sector at : ℕ) → IsNoByteOf g block sector at → slice_index (with_tag g block tag image sector) at ≡ slice_index (image sector) at
   unfolding tag_byte_at
   with_tag-rest sector at none =
-      with_span-rest (tag_at g block).0 (tag_at g block).1 tag image begins short first_whole next_whole sector at
+      with_span-rest (tag_at g block).sector (tag_at g block).byte tag image begins short first_whole next_whole sector at
       (λ i i_low same place. none i (omega arith) (same_pair same place))
     where
-      same_pair : {a b x y : ℕ} → a ≡ b → x ≡ y → ◌≡◌ {A = ℕ × ℕ} (a, x) (b, y)
-      same_pair e f i = (e i, f i)
+      same_pair : {a b x y : ℕ} → a ≡ b → x ≡ y → byte_place a x ≡ byte_place b y
+      same_pair e f i = record { sector = e i; byte = f i }
 
-  tag_byte : (i : ℕ) → i < g.shape.tag_size → slice_index (with_tag g block tag image (tag_byte_at g block i).0) (tag_byte_at g block i).1 ≡ slice_index tag i
+  tag_byte : (i : ℕ) → i < g.shape.tag_size → slice_index (with_tag g block tag image (tag_byte_at g block i).sector) (tag_byte_at g block i).byte ≡ slice_index tag i
   unfolding tag_byte_at
-  tag_byte i i_low = with_span-byte (tag_at g block).0 (tag_at g block).1 tag image begins short first_whole next_whole i (omega arith)
+  tag_byte i i_low = with_span-byte (tag_at g block).sector (tag_at g block).byte tag image begins short first_whole next_whole i (omega arith)
 
-  other_byte : (b i : ℕ) → b ≢ block → i < g.shape.tag_size → slice_index (with_tag g block tag image (tag_byte_at g b i).0) (tag_byte_at g b i).1 ≡ slice_index (image (tag_byte_at g b i).0) (tag_byte_at g b i).1
+  other_byte : (b i : ℕ) → b ≢ block → i < g.shape.tag_size → slice_index (with_tag g block tag image (tag_byte_at g b i).sector) (tag_byte_at g b i).byte ≡ slice_index (image (tag_byte_at g b i).sector) (tag_byte_at g b i).byte
   unfolding tag_byte_at
   other_byte b i other i_low =
-      with_span-rest (tag_at g block).0 (tag_at g block).1 tag image begins short first_whole next_whole ((tag_at g b).0 + ((tag_at g b).1 + i) / 512) (((tag_at g b).1 + i) % 512)
+      with_span-rest (tag_at g block).sector (tag_at g block).byte tag image begins short first_whole next_whole ((tag_at g b).sector + ((tag_at g b).byte + i) / 512) (((tag_at g b).byte + i) % 512)
       (λ j j_low same place. tag_bytes-apart g sectors b block i j geometry other i_low (omega arith) same place)
 
   -- Each byte of a tag in the image with the tag put.
   pub with_tag-byte : (b i : ℕ) → b < g.blocks → i < g.shape.tag_size
-      → slice_index (with_tag g block tag image (tag_byte_at g b i).0) (tag_byte_at g b i).1 ≡ slice_index (with_block_tag block tag (tags_in g image) b) i
+      → slice_index (with_tag g block tag image (tag_byte_at g b i).sector) (tag_byte_at g b i).byte ≡ slice_index (with_block_tag block tag (tags_in g image) b) i
   with_tag-byte b i b_low i_low = elim (cases_eq b block) [
     | inl same ↦
-        subst (λ (k : ℕ). slice_index (with_tag g block tag image (tag_byte_at g k i).0) (tag_byte_at g k i).1 ≡ slice_index (with_block_tag block tag (tags_in g image) k) i) (sym same)
+        subst (λ (k : ℕ). slice_index (with_tag g block tag image (tag_byte_at g k i).sector) (tag_byte_at g k i).byte ≡ slice_index (with_block_tag block tag (tags_in g image) k) i) (sym same)
         (tag_byte i i_low ∙ sym (ap (λ (t : Bool). slice_index (if t then tag else tags_in g image block) i) (eq-eqb block block refl)))
     | inr other ↦
         other_byte b i other i_low

@@ -51,7 +51,7 @@ IsOfTags-image g sectors image new sector x geometry whole holds is = record {
   byte_low = holds.byte_low;
   is = holds.is;
   each = λ b i b_low i_low here. inl
-      (ap (λ (bytes : List ℕ). slice_index bytes (tag_byte_at g b i).1) (is ∙ ap image here)
+      (ap (λ (bytes : List ℕ). slice_index bytes (tag_byte_at g b i).byte) (is ∙ ap image here)
       ∙ sym (placed_tag-byte g sectors geometry image whole b b_low (placed_cells_of g image b) i i_low));
 }
 
@@ -66,7 +66,7 @@ IsOfTags-put g sectors image block tag sector x geometry whole low size holds is
   byte_low = holds.byte_low;
   is = holds.is;
   each = λ b i b_low i_low here. inr
-      (ap (λ (bytes : List ℕ). slice_index bytes (tag_byte_at g b i).1) (is ∙ ap (with_tag g block tag image) here)
+      (ap (λ (bytes : List ℕ). slice_index bytes (tag_byte_at g b i).byte) (is ∙ ap (with_tag g block tag image) here)
       ∙ with_tag-byte g sectors block tag image geometry whole low size b i b_low i_low);
 }
 
@@ -96,7 +96,7 @@ rest_law store disk moments start block tag sector x at is whole low size of non
 pub reads_tags_law : ReadsTagsLaw
 reads_tags_law store disk moments c d is whole read = record {
   each = λ b i low i_low.
-      ap (λ (bytes : List ℕ). slice_index bytes (tag_byte_at store.geometry b i).1) (read (tag_byte_at store.geometry b i).0)
+      ap (λ (bytes : List ℕ). slice_index bytes (tag_byte_at store.geometry b i).byte) (read (tag_byte_at store.geometry b i).sector)
       ∙ sym (placed_tag-byte store.geometry disk.sectors is.geometry (given store c) whole b low (placed_cells_of store.geometry (given store c) b) i i_low);
 }
 
@@ -111,31 +111,31 @@ direct_law store disk moments c sector is none = by_held (held_in store.sectors 
 
 -- A sector in which no byte of a tag stands has none of the block's.
 pub others_law : OthersLaw
-others_law g sectors block tag image sector geometry low size none = elim (cases_eq sector (tag_at g block).0) [
-  | inl same ↦ absurd (none_of (first_in_span (tag_at g block).0 (tag_at g block).1 g.shape.tag_size sector span.begins span.some same))
-  | inr ne ↦ elim (cases_eq sector ((tag_at g block).0 + 1)) [
-    | inr ne_next ↦ with_span-other (tag_at g block).0 (tag_at g block).1 tag image sector ne ne_next
-    | inl next ↦ elim (cases_lt 512 ((tag_at g block).1 + g.shape.tag_size)) [
-      | inl past ↦ absurd (none_of (next_in_span (tag_at g block).0 (tag_at g block).1 g.shape.tag_size sector span.begins span.short past next))
+others_law g sectors block tag image sector geometry low size none = elim (cases_eq sector (tag_at g block).sector) [
+  | inl same ↦ absurd (none_of (first_in_span (tag_at g block).sector (tag_at g block).byte g.shape.tag_size sector span.begins span.some same))
+  | inr ne ↦ elim (cases_eq sector ((tag_at g block).sector + 1)) [
+    | inr ne_next ↦ with_span-other (tag_at g block).sector (tag_at g block).byte tag image sector ne ne_next
+    | inl next ↦ elim (cases_lt 512 ((tag_at g block).byte + g.shape.tag_size)) [
+      | inl past ↦ absurd (none_of (next_in_span (tag_at g block).sector (tag_at g block).byte g.shape.tag_size sector span.begins span.short past next))
       | inr fits ↦
-          ap (λ (rest : List ℕ). with_given_piece ((tag_at g block).0 + 1) 0 rest (with_given_piece (tag_at g block).0 (tag_at g block).1 (take (512 - (tag_at g block).1) tag) image) sector)
-          (drop_all (512 - (tag_at g block).1) tag (omega arith))
-          ∙ with_given_piece-none ((tag_at g block).0 + 1) (with_given_piece (tag_at g block).0 (tag_at g block).1 (take (512 - (tag_at g block).1) tag) image) sector
-          ∙ with_given_piece-other (tag_at g block).0 (tag_at g block).1 (take (512 - (tag_at g block).1) tag) image sector ne
+          ap (λ (rest : List ℕ). with_given_piece ((tag_at g block).sector + 1) 0 rest (with_given_piece (tag_at g block).sector (tag_at g block).byte (take (512 - (tag_at g block).byte) tag) image) sector)
+          (drop_all (512 - (tag_at g block).byte) tag (omega arith))
+          ∙ with_given_piece-none ((tag_at g block).sector + 1) (with_given_piece (tag_at g block).sector (tag_at g block).byte (take (512 - (tag_at g block).byte) tag) image) sector
+          ∙ with_given_piece-other (tag_at g block).sector (tag_at g block).byte (take (512 - (tag_at g block).byte) tag) image sector ne
     ]
   ]
 ]
   where
-    span : IsSpan (tag_at g block).0 (tag_at g block).1 g.shape.tag_size sectors
+    span : IsSpan (tag_at g block).sector (tag_at g block).byte g.shape.tag_size sectors
     span = tag-span g sectors block g.shape.tag_size geometry low refl
 
-    none_of : IsInSpan (tag_at g block).0 (tag_at g block).1 g.shape.tag_size sector → ⊥
+    none_of : IsInSpan (tag_at g block).sector (tag_at g block).byte g.shape.tag_size sector → ⊥
     none_of of = let holds = HoldsTag-span g block g.shape.tag_size sector low refl of in none holds.block holds.byte holds.block_low holds.byte_low holds.is
 
 pub keeps_others_law : KeepsOthersLaw
 keeps_others_law old new disk now before after c d is is_now same given_same = record {
   each = λ sector none.
-      sym (direct_law new now after d sector is_now (subst (λ (g : Geometry). (b i : ℕ) → b < g.blocks → i < g.shape.tag_size → sector ≢ (tag_byte_at g b i).0) (sym same) none))
+      sym (direct_law new now after d sector is_now (subst (λ (g : Geometry). (b i : ℕ) → b < g.blocks → i < g.shape.tag_size → sector ≢ (tag_byte_at g b i).sector) (sym same) none))
       ∙ given_same sector none
       ∙ direct_law old disk before c sector is none;
 }

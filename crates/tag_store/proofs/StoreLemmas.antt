@@ -25,7 +25,7 @@ use Rattle.tag_store.specs.Store.{HoldsTag, IsMarkedTags, IsOfPut, IsOutForTag, 
 -- ---- where a tag stands
 
 -- The tag of a block is a span of the disk.
-pub tag-span : (g : Geometry) (sectors b size : ℕ) → IsGeometry g sectors → b < g.blocks → size ≡ g.shape.tag_size → IsSpan (tag_at g b).0 (tag_at g b).1 size sectors
+pub tag-span : (g : Geometry) (sectors b size : ℕ) → IsGeometry g sectors → b < g.blocks → size ≡ g.shape.tag_size → IsSpan (tag_at g b).sector (tag_at g b).byte size sectors
 tag-span g sectors b size geometry low is =
     let tag = tag_at-inside g sectors b geometry low in
     let bytes = data_at-inside g sectors b geometry low in
@@ -33,7 +33,7 @@ tag-span g sectors b size geometry low is =
     let most = geometry.tag_size.1 in
     record { begins = tag.2; some = omega arith; short = omega arith; ends = omega arith; device = geometry.device }
 
-pub tags_in-span : (g : Geometry) (image : Image) (b : ℕ) → tags_in g image b ≡ span_of (tag_at g b).0 (tag_at g b).1 g.shape.tag_size image
+pub tags_in-span : (g : Geometry) (image : Image) (b : ℕ) → tags_in g image b ≡ span_of (tag_at g b).sector (tag_at g b).byte g.shape.tag_size image
 unfolding placed_cells_of
 tags_in-span g image b = refl
 
@@ -45,7 +45,7 @@ data-run g sectors b size geometry low is =
     record { whole = omega arith; some = omega arith; inside = omega arith }
 
 -- A sector with a byte of the span has one of the tag.
-pub HoldsTag-span : (g : Geometry) (b size sector : ℕ) → b < g.blocks → size ≡ g.shape.tag_size → IsInSpan (tag_at g b).0 (tag_at g b).1 size sector → HoldsTag g sector
+pub HoldsTag-span : (g : Geometry) (b size sector : ℕ) → b < g.blocks → size ≡ g.shape.tag_size → IsInSpan (tag_at g b).sector (tag_at g b).byte size sector → HoldsTag g sector
 unfolding tag_byte_at
 HoldsTag-span g b size sector low same of = record { block = b; byte = of.byte; block_low = low; byte_low = omega arith; is = of.is }
 
@@ -55,8 +55,8 @@ pub tags_in-same : (g : Geometry) (sectors : ℕ) → IsGeometry g sectors → (
 tags_in-same g sectors geometry x y whole_x whole_y same b low =
     placed_tag g sectors geometry y whole_y b low (placed_cells_of g x b) (placed_tag-length g sectors geometry x whole_x b low (placed_cells_of g x b))
     (λ i i_low.
-    let holds : HoldsTag g (tag_byte_at g b i).0 = record { block = b; byte = i; block_low = low; byte_low = i_low; is = refl } in
-    ap (λ (bytes : List ℕ). slice_index bytes (tag_byte_at g b i).1) (same (tag_byte_at g b i).0 holds)
+    let holds : HoldsTag g (tag_byte_at g b i).sector = record { block = b; byte = i; block_low = low; byte_low = i_low; is = refl } in
+    ap (λ (bytes : List ℕ). slice_index bytes (tag_byte_at g b i).byte) (same (tag_byte_at g b i).sector holds)
     ∙ sym (placed_tag-byte g sectors geometry x whole_x b low (placed_cells_of g x b) i i_low))
 
 -- What is given of a sector hangs on the sector alone.
@@ -71,7 +71,7 @@ found_or (Some held) found = (held, refl)
 
 -- What comes to be held are sectors of the tag of a block.
 pub IsStore-also : (g : Geometry) (disk now : DiskIdentity) {a b : List Content} (r s : HeldSectors) (block size : ℕ) → block < g.blocks → size ≡ g.shape.tag_size
-    → IsStore (record { geometry = g; sectors = r }) disk a → now ≡ disk → IsOfDisk s now b → HoldsSpan (tag_at g block).0 (tag_at g block).1 size r s
+    → IsStore (record { geometry = g; sectors = r }) disk a → now ≡ disk → IsOfDisk s now b → HoldsSpan (tag_at g block).sector (tag_at g block).byte size r s
     → IsStore (record { geometry = g; sectors = s }) now b
 IsStore-also g disk now r s block size low same is there cache held = record {
   bound = subst (λ (d : DiskIdentity). IsBound d.name) (sym there) is.bound;
@@ -91,16 +91,16 @@ pub marked_adds : (store : Store) (disk : DiskIdentity) {m a b : List Content} �
 marked_adds store disk is moments = adds_wider (IsMarkedSector store.sectors) (IsMarkedTags store) (λ sector x of. IsMarkedTags-held store disk sector x is of) moments
 
 IsOutForTag-span : (store : Store) (disk : DiskIdentity) {m : List Content} (block size sector : ℕ) (x : List ℕ) → IsStore store disk m → size ≡ store.geometry.shape.tag_size
-    → IsOutForSpan (tag_at store.geometry block).0 (tag_at store.geometry block).1 size store.sectors sector x → IsOutForTag block store sector x
+    → IsOutForSpan (tag_at store.geometry block).sector (tag_at store.geometry block).byte size store.sectors sector x → IsOutForTag block store sector x
 IsOutForTag-span store disk block size sector x is same out = record {
   marked = IsMarkedTags-held store disk sector x is out.marked;
   used = ⊎_elim inl (λ past. inr (omega arith)) out.used;
 }
 
 pub out_adds : (store : Store) (disk : DiskIdentity) {m a b : List Content} (block size : ℕ) → IsStore store disk m → size ≡ store.geometry.shape.tag_size
-    → EachSince (OnlyAdds (IsOutForSpan (tag_at store.geometry block).0 (tag_at store.geometry block).1 size store.sectors)) a b → EachSince (OnlyAdds (IsOutForTag block store)) a b
+    → EachSince (OnlyAdds (IsOutForSpan (tag_at store.geometry block).sector (tag_at store.geometry block).byte size store.sectors)) a b → EachSince (OnlyAdds (IsOutForTag block store)) a b
 out_adds store disk block size is same moments =
-    adds_wider (IsOutForSpan (tag_at store.geometry block).0 (tag_at store.geometry block).1 size store.sectors) (IsOutForTag block store)
+    adds_wider (IsOutForSpan (tag_at store.geometry block).sector (tag_at store.geometry block).byte size store.sectors) (IsOutForTag block store)
     (λ sector x out. IsOutForTag-span store disk block size sector x is same out) moments
 
 -- ---- a tag that is put
@@ -115,13 +115,13 @@ module _ (g : Geometry) (block : ℕ) (tag : List ℕ) (size : length tag ≡ g.
   abbrev new : Store
   new = record { geometry = g; sectors = s }
 
-  pub put_adds : (disk : DiskIdentity) {m a b : List Content} → IsStore old disk m → EachSince (λ start. OnlyAdds (IsOfSpan (tag_at g block).0 (tag_at g block).1 tag r start) start) a b
+  pub put_adds : (disk : DiskIdentity) {m a b : List Content} → IsStore old disk m → EachSince (λ start. OnlyAdds (IsOfSpan (tag_at g block).sector (tag_at g block).byte tag r start) start) a b
       → EachSince (λ start. OnlyAdds (IsOfPut block tag old start) start) a b
   put_adds disk {m} {a} {b} is moments =
-      EachMoment-weaker (FromStart-weaker a (λ start. OnlyAdds (IsOfSpan (tag_at g block).0 (tag_at g block).1 tag r start) start) (λ start. OnlyAdds (IsOfPut block tag old start) start)
-      (λ start c told adds. OnlyAdds-wider (IsOfSpan (tag_at g block).0 (tag_at g block).1 tag r start) (IsOfPut block tag old start)
+      EachMoment-weaker (FromStart-weaker a (λ start. OnlyAdds (IsOfSpan (tag_at g block).sector (tag_at g block).byte tag r start) start) (λ start. OnlyAdds (IsOfPut block tag old start) start)
+      (λ start c told adds. OnlyAdds-wider (IsOfSpan (tag_at g block).sector (tag_at g block).byte tag r start) (IsOfPut block tag old start)
       (λ sector x of. ⊎_elim (λ out. inl (IsOutForTag-span old disk block (length tag) sector x is size out))
-      (λ first. inr (first_of_size (tag_at g block).0 (tag_at g block).1 g.shape.tag_size (length tag) sector (sym size) first.0, first.1)) of) start c adds)) moments
+      (λ first. inr (first_of_size (tag_at g block).sector (tag_at g block).byte g.shape.tag_size (length tag) sector (sym size) first.0, first.1)) of) start c adds)) moments
 
 -- ---- a block that is written
 

@@ -35,7 +35,7 @@ pub record HoldsTag (g : Geometry) (sector : ℕ) : Type 0 where
   pub byte : ℕ
   pub block_low : block < g.blocks
   pub byte_low : byte < g.shape.tag_size
-  pub is : sector ≡ (tag_byte_at g block byte).0
+  pub is : sector ≡ (tag_byte_at g block byte).sector
 
 -- The store is of this disk, which is bound: its places lie on it, and what is held are sectors of tags, as the disk
 -- has them where they are not marked.
@@ -59,22 +59,22 @@ pub record IsMarkedTags (store : Store) (sector : ℕ) (x : List ℕ) : Type 0 w
 -- They may go out for a use of a block's tag: where the sector of the tag is not held, or the tag stands in two.
 pub record IsOutForTag (block : ℕ) (store : Store) (sector : ℕ) (x : List ℕ) : Type 0 where
   pub marked : IsMarkedTags store sector x
-  pub used : (held_in store.sectors (tag_at store.geometry block).0 ≡ None)
-      ⊎ (512 < (tag_at store.geometry block).1 + store.geometry.shape.tag_size)
+  pub used : (held_in store.sectors (tag_at store.geometry block).sector ≡ None)
+      ⊎ (512 < (tag_at store.geometry block).byte + store.geometry.shape.tag_size)
 
 -- ---- a tag that is put
 
 -- The image with a tag in the place of a block's.
 abbrev pub with_tag : Geometry → ℕ → List ℕ → Image → Image
-with_tag g block tag = with_span (tag_at g block).0 (tag_at g block).1 tag
+with_tag g block tag = with_span (tag_at g block).sector (tag_at g block).byte tag
 
 -- Some byte of the block's tag stands in the sector.
 abbrev pub HoldsTagOf : Geometry → ℕ → ℕ → Type 0
-HoldsTagOf g block = IsInSpan (tag_at g block).0 (tag_at g block).1 g.shape.tag_size
+HoldsTagOf g block = IsInSpan (tag_at g block).sector (tag_at g block).byte g.shape.tag_size
 
 -- The sector is the first of two in which the block's tag stands.
 abbrev pub IsFirstOfTag : Geometry → ℕ → ℕ → Type 0
-IsFirstOfTag g block = IsFirstOfTwo (tag_at g block).0 (tag_at g block).1 g.shape.tag_size
+IsFirstOfTag g block = IsFirstOfTwo (tag_at g block).sector (tag_at g block).byte g.shape.tag_size
 
 -- The store gives what it gave before, with the tag in the place of the block's.
 pub record StoresTag (block : ℕ) (tag : List ℕ) (old new : Store) (before after : List Content) : Type 0 where

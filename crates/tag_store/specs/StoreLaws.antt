@@ -3,7 +3,7 @@ use Rattle.std.specs.Prelude.{◌≡◌, ◌≢◌, ℕ, ◌<◌, List, length, 
 use Rattle.disk_model.specs.Disk.{Content, Image, last_image, newest_only}
 use Rattle.disk_model.specs.Identity.{DiskIdentity, IsBound}
 use Rattle.disk_model.specs.Moments.{IsChangedBy, content_now}
-use Rattle.image_model.specs.Geometry.{Geometry, IsGeometry}
+use Rattle.image_model.specs.Geometry.{Geometry, IsGeometry, byte_place}
 use Rattle.place_model.specs.Tags.{IsOfTags, KeepsOthers, ReadsTags, tag_byte_at, with_block_tag}
 use Rattle.buffer_cache.specs.HeldSectors.{no_sectors}
 use Rattle.tag_store.specs.Store.{HoldsTag, IsOfPut, IsMarkedTags, IsStore, Store, given, given_tags, tags_in, with_tag}
@@ -14,7 +14,7 @@ AreWhole sectors image = (sector : ℕ) → sector < sectors → length (image s
 
 -- This byte of the sector is none of the block's tag.
 abbrev pub IsNoByteOf : Geometry → ℕ → (sector at : ℕ) → Type 0
-IsNoByteOf g block sector at = (i : ℕ) → i < g.shape.tag_size → tag_byte_at g block i ≢ (sector, at)
+IsNoByteOf g block sector at = (i : ℕ) → i < g.shape.tag_size → tag_byte_at g block i ≢ byte_place sector at
 
 -- ---- a tag that is put
 
@@ -73,14 +73,14 @@ abbrev pub DirectLaw : Type 0
 DirectLaw = (store : Store) (disk : DiskIdentity) (moments : List Content) (c : Content) (sector : ℕ)
     → IsStore store disk moments
     → ((b i : ℕ) → b < store.geometry.blocks → i < store.geometry.shape.tag_size
-    → sector ≢ (tag_byte_at store.geometry b i).0)
+    → sector ≢ (tag_byte_at store.geometry b i).sector)
     → given store c sector ≡ last_image c sector
 
 -- and what is put, is put in no sector of these.
 abbrev pub OthersLaw : Type 0
 OthersLaw = (g : Geometry) (sectors block : ℕ) (tag : List ℕ) (image : Image) (sector : ℕ) → IsGeometry g sectors
     → block < g.blocks → length tag ≡ g.shape.tag_size
-    → ((b i : ℕ) → b < g.blocks → i < g.shape.tag_size → sector ≢ (tag_byte_at g b i).0)
+    → ((b i : ℕ) → b < g.blocks → i < g.shape.tag_size → sector ≢ (tag_byte_at g b i).sector)
     → with_tag g block tag image sector ≡ image sector
 
 -- So these are read as before, where the store gives the same of them before a call and behind it.
@@ -88,7 +88,7 @@ abbrev pub KeepsOthersLaw : Type 0
 KeepsOthersLaw = (old new : Store) (disk now : DiskIdentity) (before after : List Content) (c d : Content)
     → IsStore old disk before → IsStore new now after → new.geometry ≡ old.geometry
     → ((sector : ℕ) → ((b i : ℕ) → b < old.geometry.blocks → i < old.geometry.shape.tag_size
-    → sector ≢ (tag_byte_at old.geometry b i).0) → given new d sector ≡ given old c sector)
+    → sector ≢ (tag_byte_at old.geometry b i).sector) → given new d sector ≡ given old c sector)
     → KeepsOthers old.geometry c d
 
 -- A store over a cache that holds none is of any disk on which its places lie, and gives what reads give.

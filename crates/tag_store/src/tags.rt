@@ -74,10 +74,16 @@ impl Tags {
             (D.moments disk.old) (D.moments disk.new) }
         ensures unwritten { HasNoMark self.old.sectors → D.moments disk.new ≡ D.moments disk.old }
     {
-        let (at, from) = self.geometry.tag_at(block);
+        let at = self.geometry.tag_at(block);
         let size = self.geometry.shape().tag as usize;
         let mut bytes = [0; 32];
-        read_span(disk, &mut self.cache, at, from as usize, &mut bytes[..size])?;
+        read_span(
+            disk,
+            &mut self.cache,
+            at.sector,
+            at.byte as usize,
+            &mut bytes[..size],
+        )?;
         Ok(Tag::from_bytes(&bytes[..size]))
     }
 
@@ -108,8 +114,14 @@ impl Tags {
         ensures moments { EachSince (λ start. OnlyAdds (IsOfPut block tag.now self.old start) start)
             (D.moments disk.old) (D.moments disk.new) }
     {
-        let (at, from) = self.geometry.tag_at(block);
-        write_span(disk, &mut self.cache, at, from as usize, tag.bytes())
+        let at = self.geometry.tag_at(block);
+        write_span(
+            disk,
+            &mut self.cache,
+            at.sector,
+            at.byte as usize,
+            tag.bytes(),
+        )
     }
 
     /// Reads the bytes of a block, by one call of the disk.
@@ -157,6 +169,7 @@ impl Tags {
         ensures store { IsStore self.now (D.identity disk.new) (D.moments disk.new) }
         ensures tags { KeepsTags self.now (D.moments disk.old) (D.moments disk.new) }
         ensures identity { D.identity disk.new ≡ D.identity disk.old }
+        ensures unread { D.reads disk.new ≡ D.reads disk.old }
 
         ensures moments { EachSince (AddsSome (data_at self.now.geometry block) bytes.now)
             (D.moments disk.old) (D.moments disk.new) }
@@ -182,6 +195,7 @@ impl Tags {
         ensures store { IsStore self.new (D.identity disk.new) (D.moments disk.new) }
         ensures keeps { KeepsStore self.old self.new (D.moments disk.old) (D.moments disk.new) }
         ensures identity { D.identity disk.new ≡ D.identity disk.old }
+        ensures unread { D.reads disk.new ≡ D.reads disk.old }
 
         ensures moments { EachSince (IsAmidWriteBack self.old.sectors)
             (D.moments disk.old) (D.moments disk.new) }

@@ -61,6 +61,8 @@ impl<D: Disk + Drop, W: Watcher + Drop> Disk for WatchedDisk<D, W> {
 
     ghost moments = { λ watched. D.moments watched.disk };
 
+    ghost reads = { λ d. D.reads d.disk };
+
     ghost named = { λ watched name. D.named watched.disk name };
 
     fn sectors(&self) -> u64 {

@@ -1,2 +1,3 @@
 pub mod Workload
 pub mod Exercise
+pub mod InOrder

@@ -44,6 +44,7 @@ loop-at-preserved g c =
     let rises : IsNonDecreasing xs = IsNonDecreasingBy-from_sort (λ (k : ℕ). k) xs c.requires.sorted in
     record {
       faults = search rules;
+      unread = search rules;
       same = GivesSame-then (IsAmidMarked x (held_in now x)) start now c.write_held.new.held (amid_same x (held_in now x)) c.write_held.ensures.moments c.loop-at.invariant.same c.write_held.ensures.same;
       unmarked = below_more (λ (k : ℕ). is_marked c.write_held.new.held (get_or xs k 0) ≡ false) i
           (λ k below. stays_unmarked now c.write_held.new.held (get_or xs k 0) c.write_held.ensures.same.keeps (c.loop-at.invariant.unmarked k below))

@@ -11,6 +11,7 @@ invariant-loop-at g l =
     let moments_of = g.D.Disk.moments in
     record {
       faults : g.D.Counted.faults l.disk ≡ g.D.Counted.faults l.fn.disk;
+      unread : g.D.Disk.reads l.disk ≡ g.D.Disk.reads l.fn.disk;
       same : GivesSame l.fn.held l.held (g.D.Disk.identity l.fn.disk) (g.D.Disk.identity l.disk) (moments_of l.fn.disk) (moments_of l.disk);
       unmarked : (k : ℕ) → k < l.at-index → is_marked l.held (get_or l.sectors k 0) ≡ false;
       gone : (s : ℕ) → is_marked l.fn.held s ≡ true → is_marked l.held s ≡ false → (k : ℕ) × (k < l.at-index) × (get_or l.sectors k 0 ≡ s);

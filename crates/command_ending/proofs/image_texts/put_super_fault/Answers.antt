@@ -3,15 +3,15 @@ use Rattle.std.specs.Fmt.{decimal}
 use Rattle.image_model.specs.declared.super_fields.SuperFault.{SuperFault}
 use Rattle.image_model.specs.declared.super_fields.SuperFault.TheVariants.{Interleave}
 use Rattle.device_model.specs.Refusals.{BySuperblock}
-use Rattle.command_ending.specs.Ended.{image_line, image_line_of}
+use Rattle.command_ending.specs.Ended.{rest_of_line, rest_of_image_line}
 use Rattle.command_ending.proofs.TextLemmas.{same_put}
 use Rattle.command_ending.proofs.image_texts.put_super_fault.Goals as goal
 
 interleave_line : (v number : ℕ) (fault : SuperFault) → number ≡ v → fault ≡ Interleave v
-    → image_line (codes "interleave " ++ decimal number) ≡ image_line_of (BySuperblock fault)
+    → rest_of_line (codes "interleave " ++ decimal number) ≡ rest_of_image_line (BySuperblock fault)
 interleave_line v number fault is_number is_fault =
-    ap (λ (x : ℕ). image_line (codes "interleave " ++ decimal x)) is_number
-    ∙ ap (λ (x : SuperFault). image_line_of (BySuperblock x)) (sym is_fault)
+    ap (λ (x : ℕ). rest_of_line (codes "interleave " ++ decimal x)) is_number
+    ∙ ap (λ (x : SuperFault). rest_of_image_line (BySuperblock x)) (sym is_fault)
 
 pub returns-in-Interleave-clause-line : goal.returns-in-Interleave-clause-line
 returns-in-Interleave-clause-line g c =

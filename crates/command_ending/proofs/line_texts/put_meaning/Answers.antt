@@ -1,8 +1,8 @@
 use Rattle.std.proofs.Common.{sym, ap, ◌∙◌}
 use Rattle.std.specs.Fmt.{decimal}
 use Rattle.device_model.specs.Script.{meaning_text}
-use Rattle.script_session.specs.Meaning.{meaning_of}
-use Rattle.script_session.specs.declared.meaning.MeaningFault.{MeaningFault}
+use Rattle.script_text.specs.Meaning.{meaning_of}
+use Rattle.script_text.specs.declared.meaning_fault.MeaningFault.{MeaningFault}
 use Rattle.command_ending.specs.Ended.{numbered_line}
 use Rattle.command_ending.proofs.TextLemmas.{same_put, range_line}
 use Rattle.command_ending.proofs.line_texts.put_meaning.Goals as goal

@@ -2,7 +2,7 @@ use Rattle.std.proofs.Common.{List, Option, subst}
 use Rattle.std.proofs.lemmas.Result.{err_from_is_err_and}
 use Rattle.device_model.specs.Mode as Model
 use Rattle.hmac_tag.specs.TagMaker.{key_of}
-use Rattle.image_judging.specs.Faults.{fault_of}
+use Rattle.judging_model.specs.Faults.{fault_of}
 use Rattle.bitmap_device.specs.declared.parts.BitmapParts.{BitmapParts}
 use Rattle.device_opening.specs.Opening.{LeavesOpenable}
 use Rattle.device_opening.proofs.JudgedLemmas.{done_cause, shift}

@@ -1,7 +1,7 @@
 use Rattle.std.proofs.Common.{true, false, sym, ◌∙◌, ap}
 use Rattle.image_format.proofs.FormatLemmas.{bitmap_now}
 use Rattle.hmac_tag.specs.TagMaker.{TagRule, key_of}
-use Rattle.image_judging.specs.Faults.{lacks_consent}
+use Rattle.judging_model.specs.Faults.{lacks_consent}
 use Rattle.device_opening.specs.Judged.{rule_of}
 use Rattle.device_opening.proofs.BitmapLemmas.{consent_fault}
 use Rattle.device_opening.proofs.bitmap_judging.judge_bitmap.Goals as goal

@@ -6,7 +6,7 @@ use Rattle.disk_model.specs.Moments.{HasNow}
 use Rattle.hmac_tag.specs.TagMaker.{key_of}
 use Rattle.image_format.specs.declared.reading.ImageFormat.{ImageFormat}
 use Rattle.image_format.specs.Format.{disk_format}
-use Rattle.image_judging.specs.Faults.{fault_of}
+use Rattle.judging_model.specs.Faults.{fault_of}
 use Rattle.bitmap_device.specs.declared.parts.BitmapParts.{BitmapParts}
 use Rattle.bitmap_device.specs.Device.{IsReady}
 use Rattle.device_opening.specs.declared.judging.JudgedImage.{JudgedImage}

@@ -3,7 +3,7 @@ use Rattle.std.proofs.lemmas.Result.{err_from_is_err_and}
 use Rattle.disk_model.specs.Moments.{EachSince}
 use Rattle.device_model.specs.Mode as Model
 use Rattle.hmac_tag.specs.TagMaker.{key_of}
-use Rattle.image_judging.specs.Faults.{fault_by_format, fault_of}
+use Rattle.judging_model.specs.Faults.{fault_by_format, fault_of}
 use Rattle.direct_device.specs.declared.parts.DirectParts.{DirectParts}
 use Rattle.device_opening.specs.DirectOpening.{KeepsEmpty}
 use Rattle.device_opening.specs.JournalMaking.{IsOfMadeJournal}

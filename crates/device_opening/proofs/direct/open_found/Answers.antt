@@ -6,7 +6,7 @@ use Rattle.disk_model.specs.Moments.{EachSince}
 use Rattle.disk_model.proofs.MomentsLemmas.{EachMoment-kept}
 use Rattle.hmac_tag.specs.TagMaker.{key_of}
 use Rattle.image_format.specs.declared.reading.ImageFormat.{ImageFormat}
-use Rattle.image_judging.specs.Faults.{fault_of}
+use Rattle.judging_model.specs.Faults.{fault_of}
 use Rattle.direct_device.specs.declared.parts.DirectParts.{DirectParts}
 use Rattle.device_opening.specs.declared.judging.JudgedImage.{JudgedImage}
 use Rattle.device_opening.specs.DirectOpening.{HasOpenOn, KeepsEmpty}

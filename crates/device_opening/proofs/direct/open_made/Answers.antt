@@ -5,7 +5,7 @@ use Rattle.device_model.specs.Mode.{Direct}
 use Rattle.hmac_tag.specs.TagMaker.{key_of}
 use Rattle.image_format.specs.declared.reading.ImageFormat.{ImageFormat}
 use Rattle.image_format.specs.Format.{disk_format}
-use Rattle.image_judging.specs.Faults.{fault_of}
+use Rattle.judging_model.specs.Faults.{fault_of}
 use Rattle.device_parts.specs.Device.{HasOpened}
 use Rattle.direct_device.specs.declared.parts.DirectParts.{DirectParts}
 use Rattle.direct_device.specs.Device.{in_direct}

@@ -5,7 +5,7 @@ use Rattle.disk_model.specs.Identity.{DiskIdentity}
 use Rattle.disk_model.proofs.MomentsLemmas.{EachMoment-kept}
 use Rattle.hmac_tag.specs.TagMaker.{key_of}
 use Rattle.image_format.specs.declared.reading.ImageFormat.{ImageFormat}
-use Rattle.image_judging.specs.Faults.{fault_of}
+use Rattle.judging_model.specs.Faults.{fault_of}
 use Rattle.journal_device.specs.declared.parts.JournalParts.{JournalParts}
 use Rattle.device_opening.specs.declared.judging.JudgedImage.{JudgedImage}
 use Rattle.device_opening.specs.Judged.{HasJudged, judged_format}

@@ -6,7 +6,7 @@ use Rattle.place_model.specs.Format.{OpensAs}
 use Rattle.disk_model.specs.Disk.{last_image}
 use Rattle.journal_reading.specs.Faults.{refusal_in}
 use Rattle.journal_reading.specs.declared.reading.JudgedJournal.{JudgedJournal}
-use Rattle.image_judging.proofs.FaultsLemmas.{same_journal, told_journal}
+use Rattle.image_judging.proofs.JournalLemmas.{same_journal, told_journal}
 use Rattle.device_opening.specs.declared.judging.JudgedImage.{JudgedImage}
 use Rattle.device_opening.specs.Judged.{rule_of}
 use Rattle.device_opening.proofs.JudgedLemmas.{fault_now, judged_opens}

@@ -2,7 +2,7 @@ use Rattle.std.proofs.Common.{None, ◌∙◌, ap}
 use Rattle.std.proofs.lemmas.Result.{err_from_is_err_and}
 use Rattle.image_model.specs.Geometry.{Shape}
 use Rattle.hmac_tag.specs.TagMaker.{key_of}
-use Rattle.image_judging.specs.Faults.{fault_by}
+use Rattle.judging_model.specs.Faults.{fault_by}
 use Rattle.buffer_cache.specs.declared.held.HeldSectors.{HeldSectors}
 use Rattle.tag_store.specs.Store.{Store}
 use Rattle.device_parts.specs.declared.parts.Parts.{Parts}

@@ -1,16 +1,17 @@
 use Rattle.std.proofs.Common.{ℕ, ◌+◌, ◌≤◌, ap, ◌∙◌, arith}
 use Rattle.disk_model.specs.Identity.{DiskIdentity}
 use Rattle.disk_model.specs.Moments.{content_now}
+use Rattle.image_model.specs.declared.byte_place.BytePlace.{BytePlace}
 use Rattle.image_model.specs.Geometry.{Shape}
 use Rattle.image_model.proofs.GeometryLemmas.{data_at-inside}
 use Rattle.disk_model.specs.Disk.{last_image}
-use Rattle.image_check.proofs.JudgingLemmas.{bad_cell-read, tag_lies}
+use Rattle.check_model.proofs.JudgingLemmas.{bad_cell-read, tag_lies}
 use Rattle.image_check.proofs.judging.judge_placed.Goals as goal
 
 pub show-requires-clause-inside : goal.show-requires-clause-inside
 show-requires-clause-inside g c =
     let lies = tag_lies c.args.geometry.now (g.D.Disk.identity c.args.disk.now).sectors c.args.block c.requires.geometry c.requires.block in
-    omega (arith, lies.inside, ap (λ (p : ℕ × ℕ). p.0) c.tag_at-tag_at.ensures)
+    omega (arith, lies.inside, ap (λ (p : BytePlace). p.sector) c.tag_at-tag_at.ensures)
 
 pub show-requires-2-clause-inside : goal.show-requires-2-clause-inside
 show-requires-2-clause-inside g c =
@@ -20,12 +21,12 @@ show-requires-2-clause-inside g c =
 pub overflow_add-stored : goal.overflow_add-stored
 overflow_add-stored g c =
     let lies = tag_lies c.args.geometry.now (g.D.Disk.identity c.args.disk.now).sectors c.args.block c.requires.geometry c.requires.block in
-    omega (arith, lies.ends, ap (λ (p : ℕ × ℕ). p.1) c.tag_at-tag_at.ensures, ap (λ (s : Shape). s.tag_size) c.shape-shape.ensures.shape)
+    omega (arith, lies.ends, ap (λ (p : BytePlace). p.byte) c.tag_at-tag_at.ensures, ap (λ (s : Shape). s.tag_size) c.shape-shape.ensures.shape)
 
 pub slice_bounds-stored-end : goal.slice_bounds-stored-end
 slice_bounds-stored-end g c =
     let lies = tag_lies c.args.geometry.now (g.D.Disk.identity c.args.disk.now).sectors c.args.block c.requires.geometry c.requires.block in
-    let end : c.tag_at-tag_at.result.1 + c.shape-shape.result.tag ≤ 1024 = omega (arith, lies.ends, ap (λ (p : ℕ × ℕ). p.1) c.tag_at-tag_at.ensures, ap (λ (s : Shape). s.tag_size) c.shape-shape.ensures.shape) in
+    let end : c.tag_at-tag_at.result.byte + c.shape-shape.result.tag ≤ 1024 = omega (arith, lies.ends, ap (λ (p : BytePlace). p.byte) c.tag_at-tag_at.ensures, ap (λ (s : Shape). s.tag_size) c.shape-shape.ensures.shape) in
     let size = c.run.ensures.size in
     omega (arith, end, size)
 

@@ -5,8 +5,8 @@ use Rattle.disk_model.specs.Disk.{last_image}
 use Rattle.image_refusal.specs.declared.call_fault.CallFault.{CallFault}
 use Rattle.image_refusal.specs.declared.call_fault.CallFault.TheVariants.{Memory, Disk}
 use Rattle.image_refusal.specs.declared.open_fault.OpenFault.{OpenFault}
-use Rattle.image_judging.specs.Faults.{ByJournal, fault_in}
-use Rattle.image_judging.proofs.FaultsLemmas.{fault_in-err}
+use Rattle.judging_model.specs.Faults.{ByJournal, fault_in}
+use Rattle.judging_model.proofs.FaultsLemmas.{fault_in-err}
 use Rattle.image_check.proofs.ReadingLemmas.{no_fault, own_fault}
 use Rattle.image_check.proofs.opening.read_own_journal.Goals as goal
 

@@ -2,7 +2,7 @@ use Rattle.std.proofs.Common.{◌≡◌, ◌≤◌}
 use Rattle.disk_model.specs.Disk.{last_image}
 use Rattle.disk_model.specs.Moments.{HasNow}
 use Rattle.sector_window.specs.Window.{HasRoom}
-use Rattle.image_check.specs.Report.{awaiting_below}
+use Rattle.check_model.specs.Report.{awaiting_below}
 use Rattle.image_check.proofs.passing.count_awaiting.Given as goal
 
 -- Those of the blocks before this one are counted, and the disk is as it was.

@@ -5,9 +5,9 @@ use Rattle.disk_model.specs.Moments.{HasNow, content_now}
 use Rattle.hmac_tag.specs.TagMaker.{key_of}
 use Rattle.image_format.specs.declared.reading.ImageFormat.{ImageFormat}
 use Rattle.place_model.specs.Format.{format_on}
+use Rattle.check_model.specs.declared.report.Report.{Report}
+use Rattle.check_model.specs.Report.{IsReportOf}
 use Rattle.image_check.specs.Checked.{awaiting_at}
-use Rattle.image_check.specs.declared.report.Report.{Report}
-use Rattle.image_check.specs.Report.{IsReportOf}
 use Rattle.image_check.proofs.CheckedLemmas.{awaiting_same, report_is}
 use Rattle.image_check.proofs.report.check.Goals as goal
 

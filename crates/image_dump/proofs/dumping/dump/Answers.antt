@@ -10,8 +10,8 @@ use Rattle.image_refusal.specs.declared.dump_fault.DumpFault.TheVariants.{Head}
 use Rattle.image_refusal.specs.declared.open_fault.HeadFault.{HeadFault}
 use Rattle.image_refusal.specs.Calls.{with_cause}
 use Rattle.image_refusal.proofs.CallLemmas.{TellsCause-named, with_cause-memory}
-use Rattle.image_dump.specs.Dump.{dump_of}
-use Rattle.image_dump.proofs.DumpLemmas.{dump_of-format, dump_of-refused}
+use Rattle.dump_model.specs.Dump.{dump_of}
+use Rattle.dump_model.proofs.DumpLemmas.{dump_of-format, dump_of-refused}
 use Rattle.image_dump.proofs.dumping.dump.Goals as goal
 
 pub returns-in_err-format-clause-refused : goal.returns-in_err-format-clause-refused

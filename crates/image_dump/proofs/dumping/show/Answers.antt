@@ -3,8 +3,8 @@ use Rattle.disk_model.specs.Disk.{last_image}
 use Rattle.image_model.specs.Scan.{walk_of_grid}
 use Rattle.image_refusal.specs.declared.dump_fault.DumpFault.TheVariants.{Scan}
 use Rattle.image_refusal.proofs.CallLemmas.{TellsCause-refused}
-use Rattle.image_dump.specs.Dump.{dump_in}
-use Rattle.image_dump.proofs.DumpLemmas.{dump_in-journal}
+use Rattle.dump_model.specs.Dump.{dump_in}
+use Rattle.dump_model.proofs.DumpLemmas.{dump_in-journal}
 use Rattle.image_dump.proofs.dumping.show.Goals as goal
 
 pub returns-clause-refused : goal.returns-clause-refused

@@ -2,7 +2,7 @@ use Rattle.std.proofs.Common.{arith}
 use Rattle.disk_model.specs.Disk.{last_image}
 use Rattle.bitmap_model.proofs.BitLemmas.{bitmap_fits_at}
 use Rattle.sector_window.proofs.WindowLemmas.{fresh_window}
-use Rattle.image_dump.proofs.DumpLemmas.{dump_in-bitmap}
+use Rattle.dump_model.proofs.DumpLemmas.{dump_in-bitmap}
 use Rattle.image_dump.proofs.dumping.show_bitmap.Goals as goal
 
 pub count_dirty-requires-clause-geometry : goal.count_dirty-requires-clause-geometry

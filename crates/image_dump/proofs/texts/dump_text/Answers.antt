@@ -1,5 +1,5 @@
-use Rattle.image_dump.specs.Lines.{superblock_lines, layout_lines, journal_lines}
-use Rattle.image_dump.proofs.LinesLemmas.{three_parts}
+use Rattle.dump_model.specs.Lines.{superblock_lines, layout_lines, journal_lines}
+use Rattle.dump_model.proofs.LinesLemmas.{three_parts}
 use Rattle.image_dump.proofs.texts.dump_text.Goals as goal
 
 pub returns : goal.returns

@@ -1,8 +1,8 @@
 use Rattle.std.proofs.Common.{◌++◌, codes, ap, sym, ◌∙◌}
 use Rattle.std.proofs.lemmas.Result.{on_ok_weaker}
-use Rattle.image_dump.specs.Lines.{joined_lines, journal_lines}
-use Rattle.image_dump.specs.declared.shown.DumpJournal.{DumpJournal}
-use Rattle.image_dump.proofs.LinesLemmas.{number_line}
+use Rattle.dump_model.specs.Lines.{joined_lines, journal_lines}
+use Rattle.dump_model.specs.declared.shown.DumpJournal.{DumpJournal}
+use Rattle.dump_model.proofs.LinesLemmas.{number_line}
 use Rattle.image_dump.proofs.texts.put_journal.Goals as goal
 
 pub returns-in-Bitmap : goal.returns-in-Bitmap

@@ -2,7 +2,7 @@
 use Rattle.std.proofs.Common.{◌≡◌, ℕ, ◌++◌, codes, ap, ◌∙◌}
 use Rattle.std.specs.Fmt.{decimal}
 use Rattle.image_model.specs.Geometry.{initial, section_entries, section_sectors}
-use Rattle.image_dump.proofs.LinesLemmas.{five_lines, number_put}
+use Rattle.dump_model.proofs.LinesLemmas.{five_lines, number_put}
 use Rattle.image_dump.proofs.texts.put_layout.Goals as goal
 
 pub returns : goal.returns

@@ -3,7 +3,7 @@ use Rattle.std.proofs.Common.{ℕ, List, [], ◌∷◌, ◌++◌, ◌*◌, ◌^�
 use Rattle.std.specs.Fmt.{decimal}
 use Rattle.hex.specs.Hex.{encode_lower}
 use Rattle.device_model.specs.Refusals.{hexadecimal}
-use Rattle.image_dump.proofs.LinesLemmas.{five_lines, two_parts, number_put}
+use Rattle.dump_model.proofs.LinesLemmas.{five_lines, two_parts, number_put}
 use Rattle.image_dump.proofs.texts.put_superblock.Goals as goal
 
 pub returns : goal.returns

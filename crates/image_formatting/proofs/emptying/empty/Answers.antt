@@ -5,10 +5,10 @@ use Rattle.disk_model.specs.Disk.{last_image}
 use Rattle.image_model.specs.Geometry.{Shape, journal_sectors, section_entries, section_sectors}
 use Rattle.image_model.specs.Section.{Entry}
 use Rattle.journal_section.specs.Entries.{BearsNumber, HoldsEntries, IsWithin}
-use Rattle.image_formatting.specs.Journal.{HasEmptyRests}
+use Rattle.formatting_model.specs.Journal.{HasEmptyRests}
 use Rattle.image_model.proofs.GeometryLemmas.{section_at-lt}
-use Rattle.image_formatting.proofs.JournalLemmas.{first_open, journal_inside, no_entries, rest_size, rests_begin, rests_next, sections_some}
-use Rattle.image_formatting.proofs.RunsLemmas.{changes_then, write_changes}
+use Rattle.formatting_model.proofs.JournalLemmas.{first_open, journal_inside, no_entries, rest_size, rests_begin, rests_next, sections_some}
+use Rattle.formatting_model.proofs.RunsLemmas.{changes_then, write_changes}
 use Rattle.image_formatting.proofs.emptying.empty.Goals as goal
 
 pub overflow_step-i : goal.overflow_step-i

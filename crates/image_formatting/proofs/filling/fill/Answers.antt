@@ -1,8 +1,8 @@
 use Rattle.std.proofs.Common.{◌∙◌, arith}
 use Rattle.std.proofs.lemmas.Result.{on_ok_weaker}
 use Rattle.image_model.proofs.GeometryLemmas.{data_at-inside}
-use Rattle.image_formatting.proofs.FillingLemmas.{fill_head, fill_journal, fill_all, fill_stays, filled_now}
-use Rattle.image_formatting.proofs.WrittenLemmas.{fill_written, head_written, journal_written}
+use Rattle.formatting_model.proofs.FillingLemmas.{fill_head, fill_journal, fill_all, fill_stays, filled_now}
+use Rattle.formatting_model.proofs.WrittenLemmas.{fill_written, head_written, journal_written}
 use Rattle.image_formatting.proofs.filling.fill.Goals as goal
 
 pub write_zeros-requires-clause-zeros : goal.write_zeros-requires-clause-zeros

@@ -1,4 +1,4 @@
-use Rattle.image_formatting.proofs.StaysLemmas.{keep_none}
+use Rattle.formatting_model.proofs.StaysLemmas.{keep_none}
 use Rattle.image_formatting.proofs.filling.fill_blocks.Goals as goal
 
 pub returns-in-Wiped-clause-moments : goal.returns-in-Wiped-clause-moments

@@ -1,10 +1,10 @@
 use Rattle.std.proofs.Common.{inl}
 use Rattle.std.proofs.lemmas.Result.{on_ok_weaker}
 use Rattle.disk_model.proofs.MomentsLemmas.{adds_then, sync_adds}
-use Rattle.image_formatting.specs.FirstSector.{IsFirst, zero_sector}
-use Rattle.image_formatting.proofs.FirstSectorLemmas.{first_adds}
-use Rattle.image_formatting.proofs.FormattedLemmas.{zero_sector_whole}
-use Rattle.image_formatting.proofs.OrderLemmas.{amid_zeros, first_sync, forget_order}
+use Rattle.formatting_model.specs.FirstSector.{IsFirst, zero_sector}
+use Rattle.formatting_model.proofs.FirstSectorLemmas.{first_adds}
+use Rattle.formatting_model.proofs.FormattedLemmas.{zero_sector_whole}
+use Rattle.formatting_model.proofs.OrderLemmas.{amid_zeros, first_sync, forget_order}
 use Rattle.image_formatting.proofs.first_sector.forget.Goals as goal
 
 pub returns-in_err-write_run-clause-moments : goal.returns-in_err-write_run-clause-moments

@@ -1,7 +1,7 @@
 use Rattle.std.proofs.Common.{rules}
 use Rattle.disk_model.proofs.MomentsLemmas.{adds_then, sync_adds}
-use Rattle.image_formatting.specs.FirstSector.{IsFirst, head_of}
-use Rattle.image_formatting.proofs.FirstSectorLemmas.{amid_founding, head_adds}
+use Rattle.formatting_model.specs.FirstSector.{IsFirst, head_of}
+use Rattle.formatting_model.proofs.FirstSectorLemmas.{amid_founding, head_adds}
 use Rattle.image_formatting.proofs.first_sector.found.Goals as goal
 
 pub returns-in_err-write_run-clause-moments : goal.returns-in_err-write_run-clause-moments

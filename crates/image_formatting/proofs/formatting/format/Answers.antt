@@ -2,9 +2,9 @@ use Rattle.std.proofs.Common.{◌∙◌, ap, sym, subst}
 use Rattle.hmac_tag.specs.TagMaker.{TagRule, key_of}
 use Rattle.image_model.specs.Geometry.{Shape}
 use Rattle.image_format.specs.declared.reading.ImageFormat.{ImageFormat}
+use Rattle.formatting_model.proofs.WholeLemmas.{left_by, made_by, planned_is, synced_by}
+use Rattle.formatting_model.proofs.WrittenLemmas.{new_written}
 use Rattle.image_formatting.specs.Room.{HasRoom}
-use Rattle.image_formatting.proofs.WholeLemmas.{left_by, made_by, planned_is, synced_by}
-use Rattle.image_formatting.proofs.WrittenLemmas.{new_written}
 use Rattle.image_formatting.proofs.formatting.format.Goals as goal
 
 pub write_image-requires-clause-size : goal.write_image-requires-clause-size

@@ -1,6 +1,6 @@
 use Rattle.std.proofs.lemmas.Result.{on_ok_weaker}
-use Rattle.image_formatting.proofs.FormattedLemmas.{amid_forget, amid_fill, amid_found, synced_found, written_is}
-use Rattle.image_formatting.proofs.WrittenLemmas.{filled_written, forget_written, founded_written}
+use Rattle.formatting_model.proofs.FormattedLemmas.{amid_forget, amid_fill, amid_found, synced_found, written_is}
+use Rattle.formatting_model.proofs.WrittenLemmas.{filled_written, forget_written, founded_written}
 use Rattle.image_formatting.proofs.formatting.write_image.Goals as goal
 
 pub returns-in_err-forget-clause-moments : goal.returns-in_err-forget-clause-moments

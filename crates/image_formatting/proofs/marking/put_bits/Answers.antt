@@ -1,6 +1,6 @@
 use Rattle.std.proofs.Common.{◌∙◌, arith}
 use Rattle.std.proofs.lemmas.List.{length-set}
-use Rattle.image_formatting.proofs.BitsLemmas.{byte_put}
+use Rattle.formatting_model.proofs.BitsLemmas.{byte_put}
 use Rattle.image_formatting.proofs.marking.put_bits.Goals as goal
 
 pub loop-i-preserved : goal.loop-i-preserved

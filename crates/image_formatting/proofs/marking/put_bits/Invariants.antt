@@ -1,5 +1,5 @@
 use Rattle.std.proofs.Common.{◌≡◌, ℕ, ◌+◌, ◌<◌, length, slice_index}
-use Rattle.image_formatting.specs.Bits.{bits_byte}
+use Rattle.formatting_model.specs.Bits.{bits_byte}
 use Rattle.image_formatting.proofs.marking.put_bits.Given as goal
 
 -- The bytes before this one are put.

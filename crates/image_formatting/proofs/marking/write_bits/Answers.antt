@@ -1,9 +1,9 @@
 use Rattle.std.proofs.Common.{rules, ◌≡◌, ℕ, ◌-◌, ◌*◌, ◌∙◌, subst, arith}
 use Rattle.disk_model.specs.Disk.{last_image}
 use Rattle.journal_section.specs.Entries.{IsWithin}
-use Rattle.image_formatting.specs.Bits.{HasBits}
-use Rattle.image_formatting.proofs.BitsLemmas.{bits_next, first_bits, sectors_at_once}
-use Rattle.image_formatting.proofs.RunsLemmas.{changes_then, write_changes}
+use Rattle.formatting_model.specs.Bits.{HasBits}
+use Rattle.formatting_model.proofs.BitsLemmas.{bits_next, first_bits, sectors_at_once}
+use Rattle.formatting_model.proofs.RunsLemmas.{changes_then, write_changes}
 use Rattle.image_formatting.proofs.marking.write_bits.Goals as goal
 
 pub put_bits-requires : goal.put_bits-requires

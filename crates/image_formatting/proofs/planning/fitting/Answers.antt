@@ -1,6 +1,6 @@
 use Rattle.std.proofs.Common.{Ok, ◌∙◌, ap, sym}
 use Rattle.image_model.specs.Geometry.{fitting_log2_region}
-use Rattle.image_formatting.proofs.PlanningLemmas.{accepted_asked, asked_never_refused, asked_told}
+use Rattle.formatting_model.proofs.PlanningLemmas.{accepted_asked, asked_never_refused, asked_told}
 use Rattle.image_formatting.proofs.planning.fitting.Goals as goal
 
 pub new-requires : goal.new-requires

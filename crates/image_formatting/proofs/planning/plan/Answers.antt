@@ -1,7 +1,7 @@
 use Rattle.std.proofs.Common.{◌∙◌, ap, sym}
 use Rattle.image_model.specs.Geometry.{best_provided_of}
 use Rattle.image_model.specs.Superblock.{Superblock}
-use Rattle.image_formatting.proofs.PlanningLemmas.{accepted_fields, fields_are, fields_never_refused}
+use Rattle.formatting_model.proofs.PlanningLemmas.{accepted_fields, fields_are, fields_never_refused}
 use Rattle.image_formatting.proofs.planning.plan.Goals as goal
 
 pub new-requires : goal.new-requires

@@ -1,7 +1,7 @@
 use Rattle.std.proofs.Common.{◌≡◌, ℕ, ◌+◌, ◌*◌, ◌∙◌, ap, arith, length, List}
 use Rattle.image_model.specs.Tag.{tag_of}
 use Rattle.image_model.proofs.TagLemmas.{length-tag_of}
-use Rattle.image_formatting.proofs.TaggingLemmas.{HoldsTags-next, next_tag_fits}
+use Rattle.formatting_model.proofs.TaggingLemmas.{HoldsTags-next, next_tag_fits}
 use Rattle.image_formatting.proofs.tagging.put_tags.Goals as goal
 
 pub put_tag-requires : goal.put_tag-requires

@@ -1,5 +1,5 @@
 use Rattle.std.proofs.Common.{◌≡◌, ℕ, ◌*◌, ◌≤◌, length, slice_index}
-use Rattle.image_formatting.specs.Blocks.{HoldsTags}
+use Rattle.formatting_model.specs.Blocks.{HoldsTags}
 use Rattle.image_formatting.proofs.tagging.put_tags.Given as goal
 
 abbrev pub invariant-loop-i : goal.invariant-loop-i

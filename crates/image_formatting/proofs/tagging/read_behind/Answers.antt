@@ -1,6 +1,6 @@
 use Rattle.std.proofs.Common.{rules}
 use Rattle.std.proofs.lemmas.Result.{on_ok_weaker}
-use Rattle.image_formatting.proofs.TaggingLemmas.{before_is, behind_is}
+use Rattle.formatting_model.proofs.TaggingLemmas.{before_is, behind_is}
 use Rattle.image_formatting.proofs.tagging.read_behind.Goals as goal
 
 pub returns-clause-behind : goal.returns-clause-behind

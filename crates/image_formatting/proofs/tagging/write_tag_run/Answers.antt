@@ -6,11 +6,11 @@ use Rattle.disk_model.specs.Disk.{IsOfRun}
 use Rattle.disk_model.proofs.MomentsLemmas.{adds_told, write_adds}
 use Rattle.image_model.specs.Geometry.{quotient_up}
 use Rattle.journal_section.specs.Entries.{IsWithin}
-use Rattle.image_formatting.proofs.RunsLemmas.{part_of_zeros, write_changes}
-use Rattle.image_formatting.proofs.TaggingLemmas.{sectors_are, tag_run_written}
-use Rattle.image_formatting.proofs.StaysLemmas.{behind_keeps}
-use Rattle.image_formatting.specs.Written.{IsOfTagRun}
-use Rattle.image_formatting.proofs.WrittenLemmas.{run_written}
+use Rattle.formatting_model.proofs.RunsLemmas.{part_of_zeros, write_changes}
+use Rattle.formatting_model.proofs.TaggingLemmas.{sectors_are, tag_run_written}
+use Rattle.formatting_model.proofs.StaysLemmas.{behind_keeps}
+use Rattle.formatting_model.specs.Written.{IsOfTagRun}
+use Rattle.formatting_model.proofs.WrittenLemmas.{run_written}
 use Rattle.image_formatting.proofs.tagging.write_tag_run.Goals as goal
 
 pub slice_bounds-put_tags-end : goal.slice_bounds-put_tags-end

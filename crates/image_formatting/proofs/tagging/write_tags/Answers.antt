@@ -5,13 +5,13 @@ use Rattle.disk_model.specs.Moments.{HasNow}
 use Rattle.image_model.specs.Geometry.{quotient_up}
 use Rattle.journal_section.specs.Entries.{IsWithin}
 use Rattle.place_model.proofs.TagsLemmas.{order}
-use Rattle.image_formatting.specs.Blocks.{HasTagRun}
-use Rattle.image_formatting.proofs.RunsLemmas.{changes_then, changes_wider}
-use Rattle.image_formatting.proofs.TaggingLemmas.{group_fits, group_whole, next_run_inside, tags_next, whole_tags}
-use Rattle.image_formatting.specs.Stays.{IsRunByte, ReadsKeep}
-use Rattle.image_formatting.proofs.StaysLemmas.{keep_then, keep_wider}
-use Rattle.image_formatting.specs.Written.{IsOfTagRun}
-use Rattle.image_formatting.proofs.WrittenLemmas.{tag_run_next, writes_then}
+use Rattle.formatting_model.specs.Blocks.{HasTagRun}
+use Rattle.formatting_model.proofs.RunsLemmas.{changes_then, changes_wider}
+use Rattle.formatting_model.proofs.TaggingLemmas.{group_fits, group_whole, next_run_inside, tags_next, whole_tags}
+use Rattle.formatting_model.specs.Stays.{IsRunByte, ReadsKeep}
+use Rattle.formatting_model.proofs.StaysLemmas.{keep_then, keep_wider}
+use Rattle.formatting_model.specs.Written.{IsOfTagRun}
+use Rattle.formatting_model.proofs.WrittenLemmas.{tag_run_next, writes_then}
 use Rattle.image_formatting.proofs.tagging.write_tags.Goals as goal
 
 pub overflow_add-next : goal.overflow_add-next

@@ -3,11 +3,11 @@ use Rattle.disk_model.specs.Disk.{OnlyAdds, last_image}
 use Rattle.disk_model.specs.Moments.{EachMoment, FromStart, HasNow}
 use Rattle.image_model.specs.Geometry.{quotient_up}
 use Rattle.journal_section.specs.Entries.{IsWithin}
-use Rattle.image_formatting.specs.Blocks.{HasTagRun}
+use Rattle.formatting_model.specs.Blocks.{HasTagRun}
+use Rattle.formatting_model.specs.Runs.{ChangesOnly}
+use Rattle.formatting_model.specs.Stays.{IsRunByte, ReadsKeep}
+use Rattle.formatting_model.specs.Written.{IsOfTagRun}
 use Rattle.image_formatting.specs.Room.{tags_at_once}
-use Rattle.image_formatting.specs.Runs.{ChangesOnly}
-use Rattle.image_formatting.specs.Stays.{IsRunByte, ReadsKeep}
-use Rattle.image_formatting.specs.Written.{IsOfTagRun}
 use Rattle.image_formatting.proofs.tagging.write_tags.Given as goal
 
 abbrev pub invariant-loop-done : goal.invariant-loop-done

@@ -1,13 +1,13 @@
 use Rattle.std.proofs.Common.{rules, ◌≡◌, ℕ, ◌+◌, subst, arith}
 use Rattle.disk_model.specs.Disk.{last_image}
 use Rattle.disk_model.specs.Moments.{HasNow}
-use Rattle.image_formatting.specs.Blocks.{HasZeroBlocks, IsSectorOf}
-use Rattle.image_formatting.proofs.RunsLemmas.{changes_then, changes_wider}
-use Rattle.image_formatting.proofs.WipingLemmas.{area_sector, area_shift, areas_next, next_area}
-use Rattle.image_formatting.specs.Stays.{IsBlockByte, ReadsKeep}
-use Rattle.image_formatting.proofs.StaysLemmas.{block_byte_of, keep_then, keep_wider}
-use Rattle.image_formatting.specs.Written.{IsOfBlocks}
-use Rattle.image_formatting.proofs.WrittenLemmas.{blocks_next, writes_then}
+use Rattle.formatting_model.specs.Blocks.{HasZeroBlocks, IsSectorOf}
+use Rattle.formatting_model.proofs.RunsLemmas.{changes_then, changes_wider}
+use Rattle.formatting_model.proofs.WipingLemmas.{area_sector, area_shift, areas_next, next_area}
+use Rattle.formatting_model.specs.Stays.{IsBlockByte, ReadsKeep}
+use Rattle.formatting_model.proofs.StaysLemmas.{block_byte_of, keep_then, keep_wider}
+use Rattle.formatting_model.specs.Written.{IsOfBlocks}
+use Rattle.formatting_model.proofs.WrittenLemmas.{blocks_next, writes_then}
 use Rattle.image_formatting.proofs.wiping.wipe_blocks.Goals as goal
 
 pub wipe_area-requires-clause-run : goal.wipe_area-requires-clause-run

@@ -1,11 +1,11 @@
 use Rattle.std.proofs.Common.{◌≡◌, ◌⊎◌, ◌-◌, ◌/◌, ◌%◌, ◌≤◌, length}
 use Rattle.disk_model.specs.Disk.{OnlyAdds, last_image}
 use Rattle.disk_model.specs.Moments.{EachMoment, FromStart, HasNow}
-use Rattle.image_formatting.specs.Blocks.{HasZeroBlocks, IsSectorOf}
+use Rattle.formatting_model.specs.Blocks.{HasZeroBlocks, IsSectorOf}
+use Rattle.formatting_model.specs.Runs.{ChangesOnly}
+use Rattle.formatting_model.specs.Stays.{IsBlockByte, ReadsKeep}
+use Rattle.formatting_model.specs.Written.{IsOfBlocks}
 use Rattle.image_formatting.specs.Room.{tags_at_once}
-use Rattle.image_formatting.specs.Runs.{ChangesOnly}
-use Rattle.image_formatting.specs.Stays.{IsBlockByte, ReadsKeep}
-use Rattle.image_formatting.specs.Written.{IsOfBlocks}
 use Rattle.image_formatting.proofs.wiping.wipe_blocks.Given as goal
 
 abbrev pub invariant-loop-first : goal.invariant-loop-first

@@ -1,9 +1,9 @@
 use Rattle.std.proofs.Common.{rules, ◌-◌, arith}
 use Rattle.disk_model.proofs.MomentsLemmas.{adds_then, write_adds}
 use Rattle.journal_section.specs.Entries.{IsWithin}
-use Rattle.image_formatting.specs.Written.{IsZeroWithin}
-use Rattle.image_formatting.proofs.RunsLemmas.{changes_then, part_of_zeros, sectors_of_zeros, write_changes, zeros_next}
-use Rattle.image_formatting.proofs.WrittenLemmas.{zero_written}
+use Rattle.formatting_model.specs.Written.{IsZeroWithin}
+use Rattle.formatting_model.proofs.RunsLemmas.{changes_then, part_of_zeros, sectors_of_zeros, write_changes, zeros_next}
+use Rattle.formatting_model.proofs.WrittenLemmas.{zero_written}
 use Rattle.image_formatting.proofs.zeroing.write_zeros.Goals as goal
 
 pub returns-in_err-write_run-clause-moments : goal.returns-in_err-write_run-clause-moments

@@ -1,6 +1,6 @@
 use Rattle.std.proofs.Common.{ap, arith}
 use Rattle.image_model.specs.Geometry.{Shape}
-use Rattle.image_check.proofs.JudgingLemmas.{block_sector-low}
+use Rattle.check_model.proofs.JudgingLemmas.{block_sector-low}
 use Rattle.image_salvage.proofs.reading.judge.Goals as goal
 
 pub overflow_mul-block : goal.overflow_mul-block

@@ -5,19 +5,19 @@ use Rattle.disk_model.specs.Disk.{last_image}
 use Rattle.disk_model.proofs.MomentsLemmas.{EachMoment-kept}
 use Rattle.run_model.specs.Ending.{Ending}
 use Rattle.hmac_tag.specs.TagMaker.{key_of}
-use Rattle.script_session.specs.declared.tags_found.TagsFound.{TagsFound}
+use Rattle.script_text.specs.declared.tags_found.TagsFound.{TagsFound}
 use Rattle.command_ending.specs.declared.ended.Ended.{Ended}
 use Rattle.command_ending.specs.declared.ended.Ended.TheVariants as Endings
-use Rattle.integrity_tool.specs.declared.asked.Task.{Task}
-use Rattle.integrity_tool.specs.declared.asked.Task.TheVariants as Tasks
-use Rattle.integrity_tool.specs.Opening.{EndsImage, HasReadIn, HasRunOn, IsMomentAt}
-use Rattle.integrity_tool.specs.Order.{HasMomentsAt}
-use Rattle.integrity_tool.specs.Outset.{task_outset}
-use Rattle.integrity_tool.specs.Running.{HasEndCause, IsCounted, ending_by}
-use Rattle.integrity_tool.specs.Ends.{IsBeforeScript}
-use Rattle.integrity_tool.proofs.ClosedLemmas.{ok_holds}
-use Rattle.integrity_tool.proofs.OutsetLemmas.{IsFine, fine_check, fine_dump, fine_exercise, fine_format, fine_on, fine_resize, fine_salvage}
-use Rattle.integrity_tool.proofs.TakenLemmas.{none_taken}
+use Rattle.command_task.specs.declared.asked.Task.{Task}
+use Rattle.command_task.specs.declared.asked.Task.TheVariants as Tasks
+use Rattle.command_task.specs.Opening.{EndsImage, HasReadIn, HasRunOn, IsMomentAt}
+use Rattle.command_task.specs.Order.{HasMomentsAt}
+use Rattle.command_task.specs.Outset.{task_outset}
+use Rattle.command_task.specs.Running.{ending_by, IsBeforeScript}
+use Rattle.script_lines.specs.Ends.{HasEndCause, IsCounted}
+use Rattle.command_task.proofs.ClosedLemmas.{ok_holds}
+use Rattle.command_task.proofs.OutsetLemmas.{IsFine, fine_check, fine_dump, fine_exercise, fine_format, fine_on, fine_resize, fine_salvage}
+use Rattle.command_run.proofs.TakenLemmas.{none_taken}
 use Rattle.integrity_tool.proofs.TaskLemmas.{cause_found, causes_wider, counted_found, ending_found, ends_found, ends_wider, read_no_script, runs_told, uncounted, whatever_ended}
 use Rattle.integrity_tool.proofs.carrying_out.carry_out.Goals as goal
 use Rattle.run_model.specs.declared.outer.Outer.TheVariants as outers

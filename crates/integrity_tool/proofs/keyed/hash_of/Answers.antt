@@ -1,7 +1,8 @@
 use Rattle.std.proofs.Common.{◌≢◌, ◌≤◌, refl, ap, ◌∙◌, length, Ok, Err}
 use Rattle.hmac_tag.specs.declared.key.KeyFault.{KeyFault}
 use Rattle.run_model.specs.declared.key_refusal.KeyRefusal.TheVariants.{Long}
-use Rattle.integrity_tool.proofs.KeyLemmas.{at_most, file_bytes, is_long, key_is, key_told, ok_no_err, read_key}
+use Rattle.integrity_tool.proofs.KeyLemmas.{at_most, file_bytes, is_long, key_is, key_told, read_key}
+use Rattle.command_task.proofs.EndedLemmas.{ok_no_err}
 use Rattle.integrity_tool.proofs.keyed.hash_of.Goals as goal
 
 pub returns-in-Ok-from_bytes-clause-hash : goal.returns-in-Ok-from_bytes-clause-hash

@@ -4,6 +4,7 @@ use Rattle.std.proofs.lemmas.Result.{err_from_is_err_and}
 use Rattle.disk_model.specs.Disk.{last_image}
 use Rattle.disk_model.specs.Identity.{DiskIdentity, IsBound}
 use Rattle.disk_model.specs.Moments.{content_now}
+use Rattle.image_model.specs.Cells.{entry_place}
 use Rattle.image_model.specs.Geometry.{IsGeometry, section_sectors}
 use Rattle.image_model.specs.Scan.{walk_of_grid}
 use Rattle.commit_id.specs.Grid.{as_grid}
@@ -47,8 +48,8 @@ returns-in_err-used-clause-refused g c =
     let p = err_from_is_err_and c.from_residual-in_err-used.result c.from_residual-in_err-used.ensures.1 in
     rw (p.1, p.2) (λ not_memory not_disk content told.
     judged-refused c.args.maker.now c.args.geometry.now (last_image content) c.args.plan (sym (ap walk_of_grid (c.requires.grid content told)) ∙ c.requires.plan)
-    JudgedJournal c.loop-k.k (get_or places c.loop-k.k (0, 0)) (newest_in c.loop-k.newest) (newest_in c.judge_at.new.newest) c.loop-k.count (Err c.in_err-used.field-0.0) c.in_err-used.field-0.0
-    (slice_get-get_or places c.loop-k.k (0, 0) (omega (arith, c.loop-k-test.true, c.entry_count-k-end.ensures))) refl (λ e. not_memory (cc)) (λ e. not_disk (cc))
+    JudgedJournal c.loop-k.k (get_or places c.loop-k.k (entry_place 0 0)) (newest_in c.loop-k.newest) (newest_in c.judge_at.new.newest) c.loop-k.count (Err c.in_err-used.field-0.0) c.in_err-used.field-0.0
+    (slice_get-get_or places c.loop-k.k (entry_place 0 0) (omega (arith, c.loop-k-test.true, c.entry_count-k-end.ensures))) refl (λ e. not_memory (cc)) (λ e. not_disk (cc))
     (c.in_err-used.ensures.judged content (ap content_now c.loop-k.invariant.kept ∙ told)) (c.loop-k.invariant.judged content told))
 
 pub loop-k-preserved : goal.loop-k-preserved
@@ -59,8 +60,8 @@ loop-k-preserved g c =
       few = let few = within.few in omega (arith, few, c.loop-k.invariant.few);
       inside = within.inside c.loop-k.invariant.inside;
       judged = λ content told.
-          judged-next c.args.maker.now c.args.geometry.now (last_image content) c.args.plan c.loop-k.k (get_or places c.loop-k.k (0, 0)) (newest_in c.loop-k.newest) (newest_in c.judge_at.new.newest)
-          c.loop-k.count c.in_ok-used.used (Ok c.in_ok-used.used) (slice_get-get_or places c.loop-k.k (0, 0) (omega (arith, c.loop-k-test.true, c.entry_count-k-end.ensures)))
+          judged-next c.args.maker.now c.args.geometry.now (last_image content) c.args.plan c.loop-k.k (get_or places c.loop-k.k (entry_place 0 0)) (newest_in c.loop-k.newest) (newest_in c.judge_at.new.newest)
+          c.loop-k.count c.in_ok-used.used (Ok c.in_ok-used.used) (slice_get-get_or places c.loop-k.k (entry_place 0 0) (omega (arith, c.loop-k-test.true, c.entry_count-k-end.ensures)))
           c.requires.geometry.spb.0 refl (c.in_ok-used.ensures.judged content (ap content_now c.loop-k.invariant.kept ∙ told)) (c.loop-k.invariant.judged content told);
       window = c.judge_at.ensures.window;
       faults = c.in_ok-used.ensures.cause.passed (λ e. cc) ∙ c.loop-k.invariant.faults;

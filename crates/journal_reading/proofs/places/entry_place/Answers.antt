@@ -1,5 +1,6 @@
 use Rattle.std.proofs.Common.{◌≡◌, ◌/◌, ◌%◌, ◌<◌, ◌^◌, ℕ, Some, List, get_or, length, ap, sym, ◌∙◌, arith}
 use Rattle.std.proofs.lemmas.Nat.{div_below}
+use Rattle.image_model.specs.Cells.{entry_place as place}
 use Rattle.image_model.specs.Geometry.{Geometry, section_entries}
 use Rattle.image_model.specs.Walk.{sections_of}
 use Rattle.journal_reading.specs.Places.{places_of}
@@ -51,5 +52,5 @@ returns c =
       | else-at-count w ↦ let here = told.second (k / section_entries g.shape) (omega (arith, same, w.if-at-count.false)) at in omega (arith, here, same, w.section-is)
     ] in
     place-at g walk k c.requires.k
-    ∙ ap (λ (n : ℕ). Some (n, k % section_entries g.shape)) section
-    ∙ ap (λ (n : ℕ). Some (c.if-at-count.section, k % n)) (sym entries)
+    ∙ ap (λ (n : ℕ). Some (place n (k % section_entries g.shape))) section
+    ∙ ap (λ (n : ℕ). Some (place c.if-at-count.section (k % n))) (sym entries)

@@ -7,7 +7,7 @@ use Rattle.nbd_flight.specs.Deeds.{Scene, behind, scene_of}
 use Rattle.nbd_flight.specs.Flight.{AreHeld}
 use Rattle.nbd_flight.specs.declared.flight.Waiting.{Waiting}
 use Rattle.nbd_flight.proofs.StaysLemmas.{stays_none, stays_then}
-use Rattle.nbd_pieces.proofs.FitLemmas.{stays_more}
+use Rattle.nbd_session.proofs.FitLemmas.{stays_more}
 use Rattle.nbd_session.specs.declared.ended.SessionFault.{SessionFault}
 use Rattle.nbd_session.specs.declared.serving.StreamEnd.{StreamEnd}
 use Rattle.nbd_session.specs.Serving.{HasServed, ending_told}

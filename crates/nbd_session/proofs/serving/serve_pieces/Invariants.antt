@@ -4,7 +4,7 @@ use Rattle.nbd_model.specs.Session.{most_piece}
 use Rattle.nbd_model.specs.Stream.{most_stream}
 use Rattle.nbd_flight.specs.Deeds.{scene_of}
 use Rattle.nbd_flight.specs.Rounds.{Stays}
-use Rattle.nbd_pieces.specs.Piece.{IsFor}
+use Rattle.nbd_session.specs.Piece.{IsFor}
 use Rattle.nbd_session.specs.Session.{ForNew}
 use Rattle.nbd_session.proofs.StreamLemmas.{IsOnStream}
 use Rattle.nbd_session.proofs.serving.serve_pieces.Given as goal

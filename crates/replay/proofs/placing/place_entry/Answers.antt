@@ -40,7 +40,7 @@ read_entry-requires-clause-section g c =
     let journal = c.args.read.now.journal.now in
     let replaying = c.requires.replaying in
     let geometry = geometry_of G c.args.tags.now (g.D.Disk.identity c.args.disk.now) (g.D.Disk.moments c.args.disk.now) replaying.geometry replaying.store_is in
-    let place : ℕ × ℕ = (c.entry_place-place.result.section, c.entry_place-place.result.entry) in
+    let place = c.entry_place-place.result in
     let inside = place-inside G journal.plan.walk c.args.number place (IsWalk-fits G (as_grid journal.grid) journal.plan replaying.fits.grid_ replaying.fits.plan_) c.entry_place-place.ensures in
     inside.0
 
@@ -51,7 +51,7 @@ read_entry-requires-clause-entry g c =
     let journal = c.args.read.now.journal.now in
     let replaying = c.requires.replaying in
     let geometry = geometry_of G c.args.tags.now (g.D.Disk.identity c.args.disk.now) (g.D.Disk.moments c.args.disk.now) replaying.geometry replaying.store_is in
-    let place : ℕ × ℕ = (c.entry_place-place.result.section, c.entry_place-place.result.entry) in
+    let place = c.entry_place-place.result in
     let inside = place-inside G journal.plan.walk c.args.number place (IsWalk-fits G (as_grid journal.grid) journal.plan replaying.fits.grid_ replaying.fits.plan_) c.entry_place-place.ensures in
     inside.1
 
@@ -79,7 +79,7 @@ returns-in_err-place_view-clause-stands g c d to read has =
     let journal = c.args.read.now.journal.now in
     let replaying = c.requires.replaying in
     let geometry = geometry_of G c.args.tags.now (g.D.Disk.identity c.args.disk.now) (g.D.Disk.moments c.args.disk.now) replaying.geometry replaying.store_is in
-    let place : ℕ × ℕ = (c.entry_place-place.result.section, c.entry_place-place.result.entry) in
+    let place = c.entry_place-place.result in
     let inside = place-inside G journal.plan.walk c.args.number place (IsWalk-fits G (as_grid journal.grid) journal.plan replaying.fits.grid_ replaying.fits.plan_) c.entry_place-place.ensures in
     let entry = entry_with c.read_entry.new.block c.in-Some.view in
     let spb : c.shape.result.spb ≡ G.shape.spb = ap (λ (x : Shape). x.spb) c.shape.ensures.shape in
@@ -98,7 +98,7 @@ returns-in_ok-place_view-clause-stands g c d to read has =
     let journal = c.args.read.now.journal.now in
     let replaying = c.requires.replaying in
     let geometry = geometry_of G c.args.tags.now (g.D.Disk.identity c.args.disk.now) (g.D.Disk.moments c.args.disk.now) replaying.geometry replaying.store_is in
-    let place : ℕ × ℕ = (c.entry_place-place.result.section, c.entry_place-place.result.entry) in
+    let place = c.entry_place-place.result in
     let inside = place-inside G journal.plan.walk c.args.number place (IsWalk-fits G (as_grid journal.grid) journal.plan replaying.fits.grid_ replaying.fits.plan_) c.entry_place-place.ensures in
     let entry = entry_with c.read_entry.new.block c.in-Some.view in
     let spb : c.shape.result.spb ≡ G.shape.spb = ap (λ (x : Shape). x.spb) c.shape.ensures.shape in
@@ -117,7 +117,7 @@ returns-in_ok-place_view-clause-placed g c d to read has =
     let journal = c.args.read.now.journal.now in
     let replaying = c.requires.replaying in
     let geometry = geometry_of G c.args.tags.now (g.D.Disk.identity c.args.disk.now) (g.D.Disk.moments c.args.disk.now) replaying.geometry replaying.store_is in
-    let place : ℕ × ℕ = (c.entry_place-place.result.section, c.entry_place-place.result.entry) in
+    let place = c.entry_place-place.result in
     let inside = place-inside G journal.plan.walk c.args.number place (IsWalk-fits G (as_grid journal.grid) journal.plan replaying.fits.grid_ replaying.fits.plan_) c.entry_place-place.ensures in
     let entry = entry_with c.read_entry.new.block c.in-Some.view in
     let spb : c.shape.result.spb ≡ G.shape.spb = ap (λ (x : Shape). x.spb) c.shape.ensures.shape in
@@ -140,7 +140,7 @@ returns-else-is_newest-clause-placed g c d to read has =
     let journal = c.args.read.now.journal.now in
     let replaying = c.requires.replaying in
     let geometry = geometry_of G c.args.tags.now (g.D.Disk.identity c.args.disk.now) (g.D.Disk.moments c.args.disk.now) replaying.geometry replaying.store_is in
-    let place : ℕ × ℕ = (c.entry_place-place.result.section, c.entry_place-place.result.entry) in
+    let place = c.entry_place-place.result in
     let inside = place-inside G journal.plan.walk c.args.number place (IsWalk-fits G (as_grid journal.grid) journal.plan replaying.fits.grid_ replaying.fits.plan_) c.entry_place-place.ensures in
     let entry = entry_with c.read_entry.new.block c.in-Some.view in
     let spb : c.shape.result.spb ≡ G.shape.spb = ap (λ (x : Shape). x.spb) c.shape.ensures.shape in
@@ -153,14 +153,14 @@ returns-else-is_newest-clause-placed g c d to read has =
 
 pub returns-in_err-place_view-clause-moments : goal.returns-in_err-place_view-clause-moments
 returns-in_err-place_view-clause-moments g c =
-    let place : ℕ × ℕ = (c.entry_place-place.result.section, c.entry_place-place.result.entry) in
+    let place = c.entry_place-place.result in
     among_more c.args.read.now.geometry.now _ _ (λ (e : Entry) is.
     among_entries c.args.read.now.geometry.now (journal_image c.args.read.now.bytes.now) c.args.read.now.journal.now.plan.walk c.args.number place e c.entry_place-place.ensures
     (sym c.in-Some.ensures.entry ∙ ap (λ (x : Entry). Some x) (sym is))) c.place_view.ensures.moments
 
 pub returns-in_ok-place_view-clause-moments : goal.returns-in_ok-place_view-clause-moments
 returns-in_ok-place_view-clause-moments g c =
-    let place : ℕ × ℕ = (c.entry_place-place.result.section, c.entry_place-place.result.entry) in
+    let place = c.entry_place-place.result in
     among_more c.args.read.now.geometry.now _ _ (λ (e : Entry) is.
     among_entries c.args.read.now.geometry.now (journal_image c.args.read.now.bytes.now) c.args.read.now.journal.now.plan.walk c.args.number place e c.entry_place-place.ensures
     (sym c.in-Some.ensures.entry ∙ ap (λ (x : Entry). Some x) (sym is))) c.place_view.ensures.moments
@@ -172,7 +172,7 @@ returns-in_err-place_view-clause-still g c none start told read are =
     let journal = c.args.read.now.journal.now in
     let replaying = c.requires.replaying in
     let geometry = geometry_of G c.args.tags.now (g.D.Disk.identity c.args.disk.now) (g.D.Disk.moments c.args.disk.now) replaying.geometry replaying.store_is in
-    let place : ℕ × ℕ = (c.entry_place-place.result.section, c.entry_place-place.result.entry) in
+    let place = c.entry_place-place.result in
     let inside = place-inside G journal.plan.walk c.args.number place (IsWalk-fits G (as_grid journal.grid) journal.plan replaying.fits.grid_ replaying.fits.plan_) c.entry_place-place.ensures in
     let entry = entry_with c.read_entry.new.block c.in-Some.view in
     let spb : c.shape.result.spb ≡ G.shape.spb = ap (λ (x : Shape). x.spb) c.shape.ensures.shape in
@@ -194,7 +194,7 @@ returns-in_ok-place_view-clause-still g c none start told read are =
     let journal = c.args.read.now.journal.now in
     let replaying = c.requires.replaying in
     let geometry = geometry_of G c.args.tags.now (g.D.Disk.identity c.args.disk.now) (g.D.Disk.moments c.args.disk.now) replaying.geometry replaying.store_is in
-    let place : ℕ × ℕ = (c.entry_place-place.result.section, c.entry_place-place.result.entry) in
+    let place = c.entry_place-place.result in
     let inside = place-inside G journal.plan.walk c.args.number place (IsWalk-fits G (as_grid journal.grid) journal.plan replaying.fits.grid_ replaying.fits.plan_) c.entry_place-place.ensures in
     let entry = entry_with c.read_entry.new.block c.in-Some.view in
     let spb : c.shape.result.spb ≡ G.shape.spb = ap (λ (x : Shape). x.spb) c.shape.ensures.shape in
@@ -216,7 +216,7 @@ returns-in_default-clause-placed g c d to read has =
     let journal = c.args.read.now.journal.now in
     let replaying = c.requires.replaying in
     let geometry = geometry_of G c.args.tags.now (g.D.Disk.identity c.args.disk.now) (g.D.Disk.moments c.args.disk.now) replaying.geometry replaying.store_is in
-    let place : ℕ × ℕ = (c.entry_place-place.result.section, c.entry_place-place.result.entry) in
+    let place = c.entry_place-place.result in
     let inside = place-inside G journal.plan.walk c.args.number place (IsWalk-fits G (as_grid journal.grid) journal.plan replaying.fits.grid_ replaying.fits.plan_) c.entry_place-place.ensures in
     let none : None ≡ numbered_entry G d.journal c.args.number = c.in_default.ensures.entry ∙ numbered_read G (2 ^ 48) B journal d.journal geometry read c.args.number place c.entry_place-place.ensures inside.0 in
     turned_unused d G (newest_in journal.newest) to read.on.newest_ c.args.number c.args.tags.now (g.D.Disk.moments c.args.disk.now) none has

@@ -3,13 +3,13 @@ use Rattle.std.specs.Option.{option_map}
 use Rattle.std.proofs.lemmas.Result.{err_from_is_err_and}
 use Rattle.disk_model.specs.Disk.{last_image}
 use Rattle.hmac_tag.specs.TagMaker.{TagRule, key_of}
-use Rattle.image_check.specs.Checked.{Checked}
 use Rattle.image_refusal.specs.declared.call_fault.CallFault.{CallFault}
 use Rattle.image_refusal.specs.declared.call_fault.CallFault.TheVariants.{Memory, Disk}
 use Rattle.image_refusal.specs.declared.open_fault.OpenFault.{OpenFault}
-use Rattle.image_judging.specs.Faults.{ByJournal, fault_in}
-use Rattle.image_judging.proofs.FaultsLemmas.{fault_in-err}
-use Rattle.image_check.specs.Faults.{journal_fault_for}
+use Rattle.judging_model.specs.Faults.{ByJournal, fault_in}
+use Rattle.judging_model.proofs.FaultsLemmas.{fault_in-err}
+use Rattle.check_model.specs.Faults.{journal_fault_for}
+use Rattle.image_check.specs.Checked.{Checked}
 use Rattle.image_check.proofs.CheckedLemmas.{opened_check}
 use Rattle.image_check.proofs.checked_image.CheckedImage.in_format.Goals as goal
 

@@ -1,13 +1,14 @@
 use Rattle.std.proofs.Common.{inl, inr, ℕ, ◌≡◌, ◌⊎◌, ◌≤◌, Err, refl, sym, ◌∙◌, ap, subst, arith}
-use Rattle.script_session.specs.Told.{finds_fault}
+use Rattle.script_text.specs.Found.{finds_fault}
 use Rattle.command_ending.specs.declared.ended.Ended.{Ended}
 use Rattle.integrity_tool.specs.Top.{HasStatus, outset_in, texts}
-use Rattle.integrity_tool.specs.Words.{asked_of, key_file_of_asked}
+use Rattle.command_task.specs.Words.{asked_of, key_file_of_asked}
 use Rattle.integrity_tool.specs.World.{Counts}
-use Rattle.integrity_tool.proofs.KeyLemmas.{ok_no_err, was_read}
-use Rattle.integrity_tool.proofs.LoopLemmas.{not_ended}
-use Rattle.integrity_tool.proofs.UnbegunLemmas.{read_in_further}
-use Rattle.integrity_tool.proofs.TopLemmas.{cause_later, complete_is_low, ended_is_high, image_refused, last_line_holds, memory_ended, status_complete, status_ended, tells_complete, tells_early, told_at_end, words_status}
+use Rattle.command_task.proofs.EndedLemmas.{ok_no_err, not_ended}
+use Rattle.integrity_tool.proofs.KeyLemmas.{was_read}
+use Rattle.command_task.proofs.UnbegunLemmas.{read_in_further}
+use Rattle.integrity_tool.proofs.TopLemmas.{cause_later, complete_is_low, ended_is_high, image_refused, last_line_holds, memory_ended, status_complete, status_ended, tells_complete, tells_early, words_status}
+use Rattle.command_task.proofs.RunningLemmas.{told_at_end}
 use Rattle.integrity_tool.proofs.WorldLemmas.{key_file_kept}
 use Rattle.integrity_tool.proofs.top_call.Outside.integrity.Goals as goal
 

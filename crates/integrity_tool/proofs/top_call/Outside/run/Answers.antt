@@ -5,15 +5,17 @@ use Rattle.disk_model.specs.Identity.{DiskIdentity, IsBoundTo, IsThere, NamedDis
 use Rattle.disk_model.specs.Moments.{content_now}
 use Rattle.run_model.specs.Ending.{Failed}
 use Rattle.hmac_tag.specs.TagMaker.{key_of}
-use Rattle.integrity_tool.specs.declared.asked.Asked.{Asked}
-use Rattle.integrity_tool.specs.Running.{HasTaken, ending_by}
-use Rattle.integrity_tool.specs.Serving.{most_taken_for}
+use Rattle.command_task.specs.declared.asked.Asked.{Asked}
+use Rattle.command_task.specs.Running.{ending_by}
+use Rattle.script_lines.specs.Taken.{HasTaken}
+use Rattle.command_task.specs.Serving.{most_taken_for}
 use Rattle.integrity_tool.specs.Top.{outset_in, texts}
-use Rattle.integrity_tool.specs.Words.{HasNoScript, image_name, image_of, key_file_of, key_file_of_asked}
-use Rattle.integrity_tool.proofs.KeyLemmas.{ok_no_err, words_unread}
-use Rattle.integrity_tool.proofs.UnbegunLemmas.{read_none}
+use Rattle.command_task.specs.Words.{HasNoScript, image_name, image_of, key_file_of, key_file_of_asked}
+use Rattle.command_task.proofs.EndedLemmas.{ok_no_err}
+use Rattle.integrity_tool.proofs.KeyLemmas.{words_unread}
+use Rattle.command_task.proofs.UnbegunLemmas.{read_none}
 use Rattle.integrity_tool.proofs.StartLemmas.{closed_given, outside_first, ran_given, read_given, stopped_at_key, stopped_at_words}
-use Rattle.integrity_tool.proofs.TakenLemmas.{none_taken}
+use Rattle.command_run.proofs.TakenLemmas.{none_taken}
 use Rattle.integrity_tool.proofs.TopLemmas.{told_there}
 use Rattle.integrity_tool.proofs.WorldLemmas.{err_words, key_file_read, no_command, of_error, right_key, unopened_given, unopened_same}
 use Rattle.integrity_tool.proofs.top_call.Outside.run.Goals as goal

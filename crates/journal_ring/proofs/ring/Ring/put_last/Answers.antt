@@ -1,6 +1,6 @@
 use Rattle.std.proofs.Common.{◌≡◌, ◌+◌, ◌-◌, slice_index, arith, refl, sym, ap, ◌∙◌}
 use Rattle.image_model.specs.Section.{Entry}
-use Rattle.journal_overlay.specs.declared.place.Place.{Place}
+use Rattle.image_model.specs.declared.entry_place.EntryPlace.{EntryPlace}
 use Rattle.journal_ring.specs.Ring.{section_of, with_entry}
 use Rattle.journal_ring.specs.Places.{next_place}
 use Rattle.journal_ring.proofs.RingLemmas.{IsRing-put, view_of-put, PutsLast, puts_from, finds_last, counts_from, next_place-last, entries_few}
@@ -51,11 +51,11 @@ returns-clause-place c =
     let counts = c.self.inside.counts.items in
     let finds = finds_last g c.self.inside.pool.bytes counts m c.args.self.now c.sections-sections.result c.wrap-section.result
     c.index-entry.result.now c.self.invariant c.self.view_is c.requires.open c.sections-sections.ensures c.wrap-section.ensures.section c.wrap-section.ensures.inside c.index-entry.ensures in
-    let told : Place = record {
+    let told : EntryPlace = record {
       section = section_of g m (m.committed + (m.opened - 1));
       entry = slice_index counts (section_of g m (m.committed + (m.opened - 1)));
     } in
-    let found : Place = record { section = c.wrap-section.result; entry = c.index-entry.result.now } in
+    let found : EntryPlace = record { section = c.wrap-section.result; entry = c.index-entry.result.now } in
     let same : found ≡ told = λ i. record { section = finds.section_is i; entry = finds.count_is i } in
     same
     ∙ sym (next_place-last g c.self.inside.pool.bytes counts m c.self.invariant (let some = finds.some in omega arith))

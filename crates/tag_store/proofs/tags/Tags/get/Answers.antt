@@ -40,9 +40,9 @@ returns-clause-tag g c content told =
     let size : c.shape-size.result.tag ≡ c.self.inside.geometry.shape.tag_size = ap (λ (s : Shape). s.tag_size) c.shape-size.ensures.shape in
     let kept : length c.read_span.new.out ≡ c.shape-size.result.tag =
     c.read_span.auto.out ∙ length-take-le c.shape-size.result.tag _ (omega (arith, c.shape-size.ensures.is_shape.tag.1)) in
-    let read : c.read_span.new.out ≡ span_of c.tag_at-at.result.0 c.tag_at-at.result.1 c.self.inside.geometry.shape.tag_size (cached (sectors_of c.self.inside.cache) content) =
+    let read : c.read_span.new.out ≡ span_of c.tag_at-at.result.sector c.tag_at-at.result.byte c.self.inside.geometry.shape.tag_size (cached (sectors_of c.self.inside.cache) content) =
     c.in_ok-read_span.ensures.read content told
-    ∙ ap (λ (n : ℕ). span_of c.tag_at-at.result.0 c.tag_at-at.result.1 n (cached (sectors_of c.self.inside.cache) content)) (length-take-le c.shape-size.result.tag _ (omega (arith, c.shape-size.ensures.is_shape.tag.1)) ∙ size) in
+    ∙ ap (λ (n : ℕ). span_of c.tag_at-at.result.sector c.tag_at-at.result.byte n (cached (sectors_of c.self.inside.cache) content)) (length-take-le c.shape-size.result.tag _ (omega (arith, c.shape-size.ensures.is_shape.tag.1)) ∙ size) in
     subst (λ (s : Store). c.from_bytes.result ≡ tags_in s.geometry (given s content) c.args.block) c.self.view_is
     (c.from_bytes.ensures
     ∙ take-append-le c.shape-size.result.tag c.read_span.new.out _ (omega (arith, kept)) ∙ take_all c.shape-size.result.tag c.read_span.new.out (omega (arith, kept))

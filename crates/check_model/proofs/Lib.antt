@@ -1,0 +1,2 @@
+pub mod JudgingLemmas
+mod Worked

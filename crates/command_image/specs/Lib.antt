@@ -1,0 +1,3 @@
+pub mod Exercised
+pub mod Tasks
+pub mod Listing

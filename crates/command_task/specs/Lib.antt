@@ -1,0 +1,17 @@
+pub mod Words
+pub mod Serving
+pub mod Telling
+pub mod Opening
+pub mod Order
+pub mod Outset
+pub mod Closed
+pub mod Running
+pub mod Unopened
+pub mod Calls
+pub mod Refusing
+pub mod Checking
+pub mod Dumping
+pub mod Salvaging
+pub mod Resizing
+pub mod Exercising
+pub mod Making

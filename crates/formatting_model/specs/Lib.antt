@@ -1,0 +1,11 @@
+pub mod Bits
+pub mod Blocks
+pub mod FirstSector
+pub mod Formatted
+pub mod FormattedLaws
+pub mod Journal
+pub mod NewImage
+pub mod Order
+pub mod Runs
+pub mod Stays
+pub mod Written

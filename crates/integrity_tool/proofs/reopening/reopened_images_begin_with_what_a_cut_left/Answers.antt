@@ -1,5 +1,0 @@
-use Rattle.integrity_tool.proofs.ReopeningLemmas.{reopening_law}
-use Rattle.integrity_tool.proofs.reopening.reopened_images_begin_with_what_a_cut_left.Goals as goal
-
-pub returns : goal.returns
-returns c = reopening_law c.images_that_open_have_no_fault.ensures

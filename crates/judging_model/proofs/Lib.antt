@@ -1,0 +1,3 @@
+pub mod FaultsLemmas
+pub mod FaultLawsLemmas
+mod Worked
