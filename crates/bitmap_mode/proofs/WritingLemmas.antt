@@ -19,7 +19,8 @@ use Rattle.bitmap_laws.proofs.ServeLemmas.{bit_set_law}
 use Rattle.direct_mode.specs.Cells.{IsBlock, IsOfBlock, IsOfBlockOrTags}
 use Rattle.direct_mode.proofs.ServingLemmas.{writes_in_place}
 use Rattle.dirty_bitmap.specs.Bits.{bits_of}
-use Rattle.tag_store.specs.Store.{HoldsTag, IsMarkedTags, IsStore, Store, given_tags}
+use Rattle.tag_store.specs.Store.{IsMarkedTags, IsStore, Store, given_tags}
+use Rattle.place_model.specs.Tags.{HoldsTag}
 use Rattle.bitmap_mode.specs.States.{AreSameCounts, States, counts_of}
 use Rattle.bitmap_mode.specs.Standing.{TurnsInto}
 use Rattle.bitmap_mode.specs.Writing.{HasWritten, IsOfBit, IsOfMarkedBlock, SetsBit, TakesCell, TakesWrite}

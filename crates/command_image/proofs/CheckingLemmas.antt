@@ -26,9 +26,10 @@ use Rattle.place_model.specs.Format.{format_on}
 use Rattle.command_ending.specs.Ended.{ending_of}
 use Rattle.run_model.specs.CommandRun.{Outset, Prints, IsEndedShort, only_prints}
 use Rattle.command_image.specs.Listing.{IsListed, IsPrintedShort, lines_in}
-use Rattle.command_task.specs.Checking.{bad_line, check_outset, counts_line, has_bad, last_line, outset_by_check}
+use Rattle.command_model.specs.Checking.{bad_line, check_outset, counts_line, has_bad, last_line, outset_by_check}
 use Rattle.command_task.specs.Opening.{HasRunOn}
-use Rattle.command_task.specs.Refusing.{ended_by_opening, ending_by_refusal}
+use Rattle.command_task.specs.Refusing.{ended_by_opening}
+use Rattle.command_model.specs.Refusing.{ending_by_refusal}
 use Rattle.command_image.proofs.PrintingLemmas.{all_printed, part_printed, same_now}
 use Rattle.command_task.proofs.RunningLemmas.{told_further, told_nothing}
 use Rattle.command_task.proofs.OutsetLemmas.{counts_begin, fine_check, lines_begin}

@@ -39,7 +39,7 @@ use Rattle.judging_model.specs.FaultLaws.{OpensLaw}
 use Rattle.judging_model.specs.Faults.{fault_in, image_fault}
 use Rattle.device_opening.proofs.MomentsLemmas.{each_from, now_told, EachMoment-both}
 use Rattle.run_laws.proofs.ScriptRunLemmas.{came_into, run_is_whole}
-use Rattle.device.specs.Awaiting.{fields_of}
+use Rattle.place_model.specs.Awaiting.{fields_of}
 use Rattle.device.specs.declared.mode.DeviceParts.{DeviceParts}
 use Rattle.device.specs.declared.opening.OpenMode.TheVariants as OpenModes
 use Rattle.device_parts.specs.Device.{HasEnded, Standing, opened_standing}
@@ -47,7 +47,7 @@ use Rattle.device.specs.Device.{any_mode, kind_of}
 use Rattle.device.specs.Opening.{IsRefused, LeavesOpening}
 use Rattle.device.specs.Run.{HasRun, standing_behind}
 use Rattle.device.specs.Tags.{Leaves}
-use Rattle.device.specs.Writes.{IsOfRun}
+use Rattle.place_model.specs.RunWrites.{IsOfRun}
 use Rattle.device.proofs.RunLemmas.{left-behind, left-wider}
 use Rattle.device.proofs.TagsLemmas.{leaves_left, leaves_then}
 use Rattle.device_exercise.specs.Exercising.{exercise_events}
@@ -67,12 +67,14 @@ use Rattle.run_model.specs.ExerciseRun.{exercise_step}
 use Rattle.workload_model.proofs.ExerciseLemmas.{after_events-script, changes_of-script}
 use Rattle.command_task.specs.declared.asked.Task.TheVariants.{Exercise}
 use Rattle.command_image.specs.Exercised.{HasCounted, HasJournalToOpen, IsCountTold, IsExercised, IsExercisedOn, IsExercisedTo, IsMomentOfNew, IsTallyTold, ended_count, exercise_changes, new_run, new_standing}
-use Rattle.command_task.specs.Closed.{IsClosedIn, IsClosedNew}
-use Rattle.command_task.specs.Exercising.{IsExercisedByLine, IsExercisedInOrder, changes_by_step, exercise_image, exercise_outset, exercising_of, outset_by_exercise}
-use Rattle.command_task.specs.Making.{IsLeftByMaking, IsMadeInOrder, ended_by_format}
-use Rattle.command_task.specs.Opening.{HasRunOn, IsMomentOf, IsOpenedTo, IsWrittenByRun}
+use Rattle.command_model.specs.Closed.{IsClosedIn, IsClosedNew}
+use Rattle.command_model.specs.Exercising.{IsExercisedByLine, IsExercisedInOrder, changes_by_step, exercise_image, exercise_outset, exercising_of, outset_by_exercise}
+use Rattle.command_task.specs.Making.{ended_by_format}
+use Rattle.command_model.specs.Making.{IsLeftByMaking, IsMadeInOrder}
+use Rattle.command_task.specs.Opening.{HasRunOn}
+use Rattle.command_model.specs.Opening.{IsMomentOf, IsOpenedTo, IsWrittenByRun}
 use Rattle.command_task.specs.Order.{HasMomentsAt}
-use Rattle.command_task.specs.Outset.{geometry_on}
+use Rattle.command_model.specs.Outset.{geometry_on}
 use Rattle.command_task.specs.Refusing.{ended_by_opening}
 use Rattle.command_task.specs.Running.{ending_by}
 use Rattle.command_task.proofs.DeviceLemmas.{failed_close, since_event}

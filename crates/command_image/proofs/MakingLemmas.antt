@@ -20,8 +20,10 @@ use Rattle.formatting_model.proofs.WholeLemmas.{left_in_order}
 use Rattle.device_opening.proofs.MomentsLemmas.{EachMoment-both}
 use Rattle.command_ending.specs.Ended.{ending_of}
 use Rattle.run_model.specs.CommandRun.{Outset, Makes, only_prints}
-use Rattle.command_task.specs.Making.{IsLeftByMaking, IsMadeInOrder, ended_by_format, format_outset, formatted_text, making_of, outset_by_format}
-use Rattle.command_task.specs.Opening.{HasRunOn, IsMomentOf}
+use Rattle.command_task.specs.Making.{ended_by_format}
+use Rattle.command_model.specs.Making.{IsLeftByMaking, IsMadeInOrder, format_outset, formatted_text, making_of, outset_by_format}
+use Rattle.command_task.specs.Opening.{HasRunOn}
+use Rattle.command_model.specs.Opening.{IsMomentOf}
 use Rattle.command_task.proofs.RunningLemmas.{told_nothing}
 use Rattle.command_task.proofs.OutsetLemmas.{fine_format, left_at_start, made_prints}
 use Rattle.command_task.proofs.UnbegunLemmas.{before_kept, nothing_run, refused_run, untouched_kept}

@@ -16,7 +16,8 @@ use Rattle.dump_model.specs.Dump.{dump_of}
 use Rattle.dump_model.specs.Lines.{dump_lines, joined_lines}
 use Rattle.command_ending.specs.Ended.{ending_of}
 use Rattle.run_model.specs.CommandRun.{Outset, Prints, IsEndedShort, IsAtExit, IsRunAt, only_prints, printing_step}
-use Rattle.command_task.specs.Dumping.{dump_outset, ended_by_dump, ending_by_dump, outset_by_dump}
+use Rattle.command_task.specs.Dumping.{ended_by_dump}
+use Rattle.command_model.specs.Dumping.{dump_outset, ending_by_dump, outset_by_dump}
 use Rattle.command_task.specs.Opening.{HasRunOn}
 use Rattle.command_task.proofs.OutsetLemmas.{fine_dump}
 use Rattle.command_task.proofs.UnbegunLemmas.{before_kept, nothing_run, refused_run, untouched_kept}

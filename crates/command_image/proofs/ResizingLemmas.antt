@@ -21,12 +21,14 @@ use Rattle.image_resizing.specs.Faults.{fault_in, fault_told}
 use Rattle.resize_model.specs.Left.{IsInResizeOrder, IsLeftByResize, IsResizedTo, IsSyncedAtMost, KeepsRefused}
 use Rattle.resize_model.specs.Refusals.{CanResize, resize_fault_of}
 use Rattle.resize_model.specs.Resized.{resized_provided, resized_text}
-use Rattle.command_task.specs.Resizing.{outset_by_resize, resizing_of, Recovers, ended_by_resize, resizing_outset}
+use Rattle.command_task.specs.Resizing.{ended_by_resize}
+use Rattle.command_model.specs.Resizing.{outset_by_resize, resizing_of, Recovers, resizing_outset}
 use Rattle.resize_model.proofs.LeftLemmas.{each_law, in_order_law}
 use Rattle.resize_model.proofs.RefusalLemmas.{resizes_law}
 use Rattle.command_ending.specs.Ended.{ending_of}
 use Rattle.run_model.specs.CommandRun.{Outset, Changes, only_prints}
-use Rattle.command_task.specs.Opening.{HasRunOn, IsMomentOf}
+use Rattle.command_task.specs.Opening.{HasRunOn}
+use Rattle.command_model.specs.Opening.{IsMomentOf}
 use Rattle.command_task.proofs.RunningLemmas.{told_nothing}
 use Rattle.command_task.proofs.OutsetLemmas.{fine_resize, resized_prints}
 use Rattle.command_task.proofs.UnbegunLemmas.{before_kept, nothing_run, refused_run, untouched_kept, untouched_now, untouched_through}

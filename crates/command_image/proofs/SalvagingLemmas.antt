@@ -16,9 +16,9 @@ use Rattle.run_model.specs.ScriptRun.{texts_of}
 use Rattle.run_model.specs.Ending.{Ending, Complete, Refused, Failed, NoMemory, ByImage}
 use Rattle.stream_io.specs.Stream.{AddsPrefix, held_with, with_bytes}
 use Rattle.place_model.specs.Format.{DiskFormat, format_on}
-use Rattle.recovery_laws.specs.Refusals.{read_fault_of}
+use Rattle.place_model.specs.Refusals.{read_fault_of}
 use Rattle.salvage_model.specs.Salvaging.{block_text, counts_text, has_bad, salvage_texts, verdict_text}
-use Rattle.command_task.specs.Salvaging.{outset_by_salvage, salvage_outset}
+use Rattle.command_model.specs.Salvaging.{outset_by_salvage, salvage_outset}
 use Rattle.salvage_model.specs.Verdicts as Model
 use Rattle.salvage_model.specs.Verdicts.{bad_count, is_good, next_verdict, salvaged_bytes, verdict_on}
 use Rattle.image_format.specs.declared.reading.ImageFormat.{ImageFormat}

@@ -30,10 +30,10 @@ use Rattle.run_model.specs.CommandRun.{IsOfScriptRun}
 use Rattle.workload_model.specs.Exercise.{Tally, exercise_lines, exercise_tally, exercise_text, finds_faults}
 use Rattle.run_model.specs.ExerciseRun.{exercise_run, exercise_step}
 use Rattle.workload_model.specs.InOrder.{AreLinesBegun}
-use Rattle.command_task.specs.Closed.{IsClosedIn, IsClosedNew, IsClosedOn}
-use Rattle.command_task.specs.Exercising.{changes_by_step}
-use Rattle.command_task.specs.Opening.{IsWrittenByRun}
-use Rattle.command_task.specs.Outset.{geometry_on}
+use Rattle.command_model.specs.Closed.{IsClosedIn, IsClosedNew, IsClosedOn}
+use Rattle.command_model.specs.Exercising.{changes_by_step}
+use Rattle.command_model.specs.Opening.{IsWrittenByRun}
+use Rattle.command_model.specs.Outset.{geometry_on}
 use Rattle.run_model.specs.declared.outer.Outer.TheVariants as outers
 use Rattle.command_ending.specs.declared.refusal.Refusal.TheVariants as refusals
 

@@ -10,7 +10,7 @@ use Rattle.stream_io.specs.Stream.{held_with}
 use Rattle.command_ending.specs.Ended.{ending_of}
 use Rattle.command_ending.specs.declared.ended.Ended.{Ended}
 use Rattle.run_model.specs.CommandRun.{IsEndedShort, only_prints, IsEndedBy}
-use Rattle.command_task.specs.Checking.{bad_line, lines_with}
+use Rattle.command_model.specs.Checking.{bad_line, lines_with}
 use Rattle.std.specs.List.{range_with_len}
 use Rattle.place_model.specs.Format.{DiskFormat}
 use Rattle.salvage_model.specs.Salvaging.{block_text, has_bad, salvage_texts}

@@ -14,7 +14,7 @@ ghost use Rattle.command_ending.specs.Ended.{Puts};
 ghost use Rattle.command_task.specs.declared.asked.Task.TheVariants.{Check};
 ghost use Rattle.command_task.specs.Calls.{HasCauseOfTask, IsCountedInTask, RunsTask};
 ghost use Rattle.command_image.specs.Listing.{CutsList, IsListed, ListsBad};
-ghost use Rattle.command_task.specs.Checking.{bad_line, counts_line};
+ghost use Rattle.command_model.specs.Checking.{bad_line, counts_line};
 ghost use Rattle.command_task.specs.Running.{ending_by};
 ghost use Rattle.command_image.specs.Tasks.{EndsTask};
 

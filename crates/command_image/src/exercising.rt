@@ -9,7 +9,7 @@ ghost use Rattle.workload_model.specs.Exercise.{finds_faults};
 ghost use Rattle.command_task.specs.declared.asked.Task.TheVariants.{Exercise};
 ghost use Rattle.command_task.specs.Calls.{HasCauseOfTask, IsCountedInTask, PassesMoments, RunsTask};
 ghost use Rattle.command_image.specs.Exercised.{ClosesExercise, EndsExercise, ExercisesDevice, ExercisesNew, IsTallyTold, TellsExercise, ended_count};
-ghost use Rattle.command_task.specs.Exercising as Exercising;
+ghost use Rattle.command_model.specs.Exercising as Exercising;
 ghost use Rattle.command_task.specs.Running.{ending_by};
 ghost use Rattle.script_lines.specs.Ends.{HasEndCause, IsCounted};
 ghost use Rattle.command_image.specs.Tasks.{EndsTask};

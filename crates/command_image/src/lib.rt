@@ -1,8 +1,8 @@
 //! What is done on an image without a script: it is made, shown, checked, salvaged, resized or exercised.
 //!
-//! What each of these tells and leaves stands in `command_task`, with a file for each. Here stands how far it came:
-//! `specs/Listing.antt`, the file to read first, of lines that are printed block by block, and `specs/Exercised.antt`
-//! of an exercise.
+//! What each of these starts on, tells and leaves stands in `command_model`, with a file for each, and by its task in
+//! `command_task`. Here stands how far it came: `specs/Listing.antt`, the file to read first, of lines that are printed
+//! block by block, and `specs/Exercised.antt` of an exercise.
 #![tactic(auto)]
 
 mod checking;

@@ -7,7 +7,8 @@ ghost use Rattle.formatting_model.specs.NewImage.{IsNewImage};
 ghost use Rattle.command_ending.specs.Ended.{Puts};
 ghost use Rattle.command_task.specs.declared.asked.Task.TheVariants.{Format};
 ghost use Rattle.command_task.specs.Calls.{HasCauseOfTask, IsCountedInTask, PassesMoments, RunsTask};
-ghost use Rattle.command_task.specs.Making.{ended_by_format, formatted_text};
+ghost use Rattle.command_task.specs.Making.{ended_by_format};
+ghost use Rattle.command_model.specs.Making.{formatted_text};
 ghost use Rattle.command_image.specs.Tasks.{EndsTask, ending_done};
 
 use command_ending::{Ended, ImageFault, Outer, Refusal, put_pieces};

@@ -16,12 +16,12 @@ use Rattle.run_model.specs.Ending as endings
 use Rattle.device_model.specs.Grammar.{ReadLine, Means, Refused, IsReadAs}
 use Rattle.device_model.specs.LineFault.{TooLong}
 use Rattle.device_model.specs.Script.{line_outcome}
-use Rattle.device_model.specs.ScriptBytes.{most_script}
+use Rattle.device_model.specs.ScriptBytes.{most_script, HasNoNewline, most_piece}
 use Rattle.run_model.specs.ScriptRun.{IsRunOf, ScriptRun, ScriptStep, line_step, run_from, texts_of, with_step}
 use Rattle.device_model.proofs.UniqueReading.{read_once}
 use Rattle.run_laws.proofs.ScriptRunLemmas.{run_is_split}
 use Rattle.script_reader.specs.Lines.{FindsEnd, FindsWholeLine}
-use Rattle.script_reader.specs.Reading.{BeginsLine, HasNoNewline, IsWithin, Reading, TakesLine, most_piece}
+use Rattle.script_reader.specs.Reading.{BeginsLine, IsWithin, Reading, TakesLine}
 use Rattle.script_reader.proofs.LinesLemmas.{is_too_long-script, lines_left-script}
 use Rattle.device_parts.specs.declared.condition.Condition.TheVariants as Conditions
 use Rattle.device.specs.declared.mode.DeviceParts.{DeviceParts}
@@ -40,11 +40,12 @@ use Rattle.command_ending.specs.Ended.{ending_of}
 use Rattle.command_ending.specs.declared.ended.Ended.{Ended}
 use Rattle.command_ending.specs.declared.ended.Ended.TheVariants as Endings
 use Rattle.command_ending.specs.declared.line_refusal.LineRefusal.{LineRefusal}
-use Rattle.command_task.specs.Closed.{ComesTo, state_behind}
+use Rattle.command_task.specs.Closed.{ComesTo}
+use Rattle.command_model.specs.Closed.{state_behind}
 use Rattle.command_run.specs.Lines.{HasRunBytes, IsStoppedByBytes}
 use Rattle.script_lines.specs.Lines.{HasAdvanced, is_beyond, lines_behind}
-use Rattle.command_task.specs.Running.{HasReadTo}
-use Rattle.script_lines.specs.Taken.{HoldsText}
+use Rattle.command_model.specs.Running.{HasReadTo}
+use Rattle.command_model.specs.Taken.{HoldsText}
 use Rattle.script_lines.specs.Ends.{HasEndCause}
 use Rattle.command_run.specs.Stopping.{IsAt, IsAtClose, IsStopped, Leads, only_close}
 use Rattle.command_run.proofs.StoppingLemmas.{stopped_at_lines, stopped_by_itself, stopped_further}

@@ -33,13 +33,14 @@ use Rattle.device.specs.declared.mode.DeviceParts.{DeviceParts}
 use Rattle.device.specs.declared.opening.OpenMode.{OpenMode}
 use Rattle.device.specs.declared.opening.OpenMode.TheVariants.{Bitmap, Direct, Journal, Recovery}
 use Rattle.judging_model.specs.declared.consent.Consent.{Consent}
-use Rattle.device.specs.Awaiting.{fields_of}
+use Rattle.place_model.specs.Awaiting.{fields_of}
 use Rattle.device.specs.Device.{IsDevice, kind_by, kind_of, mode_of}
 use Rattle.device.specs.Opening.{IsRefused, LeavesOpening, WritesInOpening, asked_mode, fault_in_mode}
 use Rattle.device_parts.specs.declared.condition.Condition.TheVariants.{Working}
 use Rattle.device_parts.specs.Device.{IsOfSameBlocks, Standing, opened_standing}
-use Rattle.device.specs.Tags.{AreOfOthers, IsLeftOut, KeepsStill, KeepsTagsOf, Leaves}
-use Rattle.device.specs.Writes.{IsOfRun}
+use Rattle.device.specs.Tags.{IsLeftOut, Leaves}
+use Rattle.place_model.specs.KeptTags.{AreOfOthers, KeepsStill, KeepsTagsOf}
+use Rattle.place_model.specs.RunWrites.{IsOfRun}
 use Rattle.device.proofs.TagsLemmas.{still_then, tags_fewer}
 use Rattle.command_ending.specs.Ended.{ending_of}
 use Rattle.run_model.specs.CommandRun.{Outset, RunsOn, ReadsOn, Serves, IsAtExit, IsAtMoment, IsOfDevice, IsOfScriptRun, IsRunAt, MayStandAt}
@@ -51,11 +52,15 @@ use Rattle.command_run.specs.declared.closing.CloseFault.{CloseFault}
 use Rattle.command_run.specs.declared.closing.CloseFault.TheVariants as CloseFaults
 use Rattle.command_task.specs.Calls.{LeavesUnread}
 use Rattle.command_run.specs.Closing.{ended_close}
-use Rattle.command_task.specs.Running.{IsBeforeScript, HasReadTo}
+use Rattle.command_task.specs.Running.{IsBeforeScript}
+use Rattle.command_model.specs.Running.{HasReadTo}
 use Rattle.command_task.specs.declared.telling.Telling.TheVariants.{Lines}
-use Rattle.command_task.specs.Opening.{EndsImage, HasReadIn, HasRunIn, HasRunOn, IsMomentOf, IsMomentOn, IsOpenedTo, IsWrittenByRun, KeepsTagsBehind, WritesOnlyBy, geometry_of_device}
-use Rattle.command_task.specs.Outset.{begun_on, geometry_on, judged_outset, run_outset}
-use Rattle.command_task.specs.Refusing.{ended_by_opening, ending_by_refusal}
+use Rattle.command_task.specs.Opening.{EndsImage, HasRunIn, HasRunOn, IsMomentOn}
+use Rattle.command_model.specs.Opening.{HasReadIn, IsMomentOf, IsOpenedTo, IsWrittenByRun, KeepsTagsBehind, WritesOnlyBy, geometry_of_device}
+use Rattle.command_task.specs.Outset.{begun_on, run_outset}
+use Rattle.command_model.specs.Outset.{geometry_on, judged_outset}
+use Rattle.command_task.specs.Refusing.{ended_by_opening}
+use Rattle.command_model.specs.Refusing.{ending_by_refusal}
 use Rattle.command_run.specs.Stopping.{IsStopped}
 use Rattle.script_lines.specs.Ends.{EndsScript}
 use Rattle.command_task.specs.Words.{MayWrite}

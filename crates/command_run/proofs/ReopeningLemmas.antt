@@ -17,7 +17,7 @@ use Rattle.judging_model.specs.FaultLaws.{OpensLaw}
 use Rattle.device.specs.declared.opening.OpenMode.TheVariants as Modes
 use Rattle.run_model.specs.CommandRun.{Outset, RunsOn, IsRunAt}
 use Rattle.command_run.specs.Reopening.{HoldsFlushed, IsLeftBehind, ReopeningLaw, history_on}
-use Rattle.command_task.specs.Outset.{judged_outset}
+use Rattle.command_model.specs.Outset.{judged_outset}
 
 -- Whether the mode is changed or not, the device begins with the cells of the image.
 by_base : (t : Bool) (d : DiskFormat) (image : Image)

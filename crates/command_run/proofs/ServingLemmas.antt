@@ -27,7 +27,8 @@ use Rattle.device.specs.declared.mode.DeviceParts.{DeviceParts}
 use Rattle.device.specs.declared.opening.OpenMode.{OpenMode}
 use Rattle.device.specs.Device.{IsDevice, kind_of, mode_of}
 use Rattle.device.specs.Opening.{IsRefused, LeavesOpening, asked_mode, fault_in_mode}
-use Rattle.device.specs.Tags.{KeepsStill, Leaves}
+use Rattle.device.specs.Tags.{Leaves}
+use Rattle.place_model.specs.KeptTags.{KeepsStill}
 use Rattle.stream_io.specs.Stream.{TakesAtMost}
 use Rattle.nbd_model.specs.Stream.{most_stream, requests_of}
 use Rattle.nbd_model.specs.Session.{Deed, IsSessionOf, session_deeds}
@@ -48,14 +49,18 @@ use Rattle.command_ending.specs.declared.ended.Ended.TheVariants as Endings
 use Rattle.run_model.specs.CommandRun.{IsSessionRun, Outset, Serves}
 use Rattle.command_task.specs.declared.asked.Task.TheVariants as Tasks
 use Rattle.command_task.specs.declared.telling.Telling.TheVariants.{Lines, Replies}
-use Rattle.command_task.specs.Closed.{IsClosedAt, IsClosedIn, state_served}
+use Rattle.command_task.specs.Closed.{IsClosedAt}
+use Rattle.command_model.specs.Closed.{IsClosedIn, state_served}
 use Rattle.command_task.specs.Running.{IsBeforeScript, ending_by}
 use Rattle.script_lines.specs.Ends.{HasEndCause, IsCounted}
-use Rattle.command_task.specs.Opening.{EndsImage, HasReadIn, HasRunIn, IsMomentAt}
+use Rattle.command_task.specs.Opening.{EndsImage, HasRunIn, IsMomentAt}
+use Rattle.command_model.specs.Opening.{HasReadIn}
 use Rattle.command_task.specs.Order.{HasMomentsAt}
-use Rattle.command_task.specs.Outset.{task_outset, judged_outset}
+use Rattle.command_task.specs.Outset.{task_outset}
+use Rattle.command_model.specs.Outset.{judged_outset}
 use Rattle.command_task.specs.Refusing.{ended_by_opening}
-use Rattle.command_task.specs.Serving.{HasReadStream, HasServedOn, session_ending}
+use Rattle.command_task.specs.Serving.{HasServedOn, session_ending}
+use Rattle.command_model.specs.Serving.{HasReadStream}
 use Rattle.command_run.specs.Serving.{ended_by_session}
 use Rattle.command_task.specs.Words.{MayWrite}
 use Rattle.command_task.proofs.ClosedLemmas.{closed_here}

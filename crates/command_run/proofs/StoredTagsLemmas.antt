@@ -25,10 +25,11 @@ use Rattle.bitmap_device.specs.Device.{IsUnwritten}
 use Rattle.device.specs.declared.opening.OpenMode.{OpenMode}
 use Rattle.device.specs.declared.opening.OpenMode.TheVariants as Modes
 use Rattle.device.specs.Opening.{asked_mode, fault_in_mode}
-use Rattle.device.specs.Tags.{AreOfOthers}
+use Rattle.place_model.specs.KeptTags.{AreOfOthers}
 use Rattle.device.proofs.TagsLemmas.{unwritten_behind}
 use Rattle.run_model.specs.CommandRun.{IsAtMoment, IsUntouched}
-use Rattle.command_task.specs.Outset.{begun_on, geometry_on, judged_outset}
+use Rattle.command_task.specs.Outset.{begun_on}
+use Rattle.command_model.specs.Outset.{geometry_on, judged_outset}
 use Rattle.command_run.specs.Reopening.{history_on}
 use Rattle.command_run.specs.StoredTags.{HasJournal, HasStoredTags, StoredTagsLaw, awaits_tag, stored_tag}
 

@@ -4,7 +4,7 @@ use Rattle.stream_io.specs.Stream.{TakesAtMost}
 use Rattle.std.specs.Option.{ForSome, IsSomeAnd}
 use Rattle.script_reader.specs.Reading.{Reading}
 use Rattle.script_lines.specs.Taken.{read_by}
-use Rattle.script_lines.specs.Taken.{HasTaken}
+use Rattle.command_model.specs.Taken.{HasTaken}
 
 -- Where a reader is behind a byte, that is taken.
 pub taken_some : (left : List ℕ) (reader : Reading) (last : Option (List ℕ)) → 0 < reader.taken → IsSomeAnd last (λ more. length left ≡ length more + read_by reader)

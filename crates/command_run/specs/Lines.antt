@@ -21,8 +21,9 @@ use Rattle.std.specs.Option.{ForSome, IsSomeAnd}
 use Rattle.request_slots.specs.Flight.{Flight}
 use Rattle.device_parts.specs.declared.condition.Condition.TheVariants.{Working}
 use Rattle.device.specs.Device.{IsDevice}
-use Rattle.command_task.specs.Running.{HasReadTo}
-use Rattle.script_lines.specs.Taken.{HasTaken, most_taken}
+use Rattle.command_model.specs.Running.{HasReadTo}
+use Rattle.command_model.specs.Taken.{HasTaken}
+use Rattle.device_model.specs.ScriptBytes.{most_taken}
 
 -- The bytes are a line, which was run.
 pub record HasRunBytes (w : Standing) (bytes : List ℕ) (found : TagsFound) (parts : DeviceParts)

@@ -24,7 +24,7 @@ use Rattle.command_ending.specs.declared.ended.Ended.TheVariants as Endings
 use Rattle.run_model.specs.CommandRun.{IsEndedBy}
 use Rattle.run_model.specs.declared.outer.Outer.TheVariants as outers
 use Rattle.command_ending.specs.declared.refusal.Refusal.TheVariants as refusals
-use Rattle.script_lines.specs.Taken.{newlines_in}
+use Rattle.device_model.specs.ScriptBytes.{newlines_in}
 use Rattle.script_lines.specs.Lines.{is_beyond, lines_behind}
 
 -- This is what stopped the rest of a run on a device: the rest came so far; at each moment some of its changes

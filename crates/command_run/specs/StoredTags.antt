@@ -8,10 +8,11 @@ use Rattle.image_model.specs.Cells.{counted_entries, last_entry, placed_cells_of
 use Rattle.place_model.specs.Format.{DiskFormat, format_on}
 use Rattle.device.specs.declared.opening.OpenMode.{OpenMode}
 use Rattle.device.specs.declared.opening.OpenMode.TheVariants as Modes
-use Rattle.device.specs.Tags.{AreOfOthers}
+use Rattle.place_model.specs.KeptTags.{AreOfOthers}
 use Rattle.run_model.specs.CommandRun.{IsRunAt, IsUntouched}
 use Rattle.command_task.specs.Opening.{IsMomentOn}
-use Rattle.command_task.specs.Outset.{geometry_on, run_outset}
+use Rattle.command_task.specs.Outset.{run_outset}
+use Rattle.command_model.specs.Outset.{geometry_on}
 
 -- The tag that is stored for block b: that of its last entry that counts, and else the one in its place.
 abbrev pub tag_stored : DiskFormat → Image → ℕ → List ℕ

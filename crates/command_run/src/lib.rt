@@ -1,7 +1,7 @@
 //! What runs on an image that is open as a device: the lines of a script, and the requests of a stream.
 //!
-//! What both tell and leave stands in `command_task`. `specs/Stopping.antt` is the file to read first: what stops a run
-//! somewhere in its script, and what leads there.
+//! What both tell and leave stands in `command_model` and `command_task`. `specs/Stopping.antt` is the file to read
+//! first: what stops a run somewhere in its script, and what leads there.
 #![tactic(auto)]
 
 mod closing;

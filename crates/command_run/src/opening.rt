@@ -9,7 +9,8 @@ ghost use Rattle.command_run.specs.Closing.{ended_close};
 ghost use Rattle.command_task.specs.Opening.{EndsImage};
 ghost use Rattle.command_task.specs.Outset.{run_outset};
 ghost use Rattle.command_task.specs.Running.{ending_by};
-ghost use Rattle.script_lines.specs.Taken.{HasTaken, most_taken};
+ghost use Rattle.command_model.specs.Taken.{HasTaken};
+ghost use Rattle.device_model.specs.ScriptBytes.{most_taken};
 
 use crate::closing::{CloseFault, close};
 use crate::running::run_lines;

@@ -28,7 +28,8 @@ use Rattle.device.specs.Calls.{LeavesAtRest}
 use Rattle.device.specs.Device.{IsDevice, IsDeviceIn}
 use Rattle.device.proofs.ModeLemmas.{plain_bitmap, plain_recovery}
 use Rattle.command_task.specs.declared.asked.Task.{Task}
-use Rattle.command_task.specs.Closed.{ClosesTask, ComesTo, HasPositionOf, IsClosedAt, IsClosedBehind, IsClosedIn, state_behind}
+use Rattle.command_task.specs.Closed.{ClosesTask, ComesTo, IsClosedAt}
+use Rattle.command_model.specs.Closed.{HasPositionOf, IsClosedBehind, IsClosedIn, state_behind}
 use Rattle.command_task.proofs.PositionLemmas.{position_left}
 
 -- A close that answers well leaves each image as the mode has it.

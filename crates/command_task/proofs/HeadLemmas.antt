@@ -6,9 +6,8 @@ use Rattle.image_model.specs.Geometry.{Geometry, data_at, sector_at, tag_at}
 use Rattle.image_model.specs.Section.{Entry}
 use Rattle.image_model.specs.Superblock.{fields_in}
 use Rattle.place_model.specs.Tags.{tag_byte_at}
-use Rattle.replay.specs.Writes.{IsOfRecovery}
-use Rattle.device_opening.specs.Opening.{IsOfOpening}
-use Rattle.device.specs.Awaiting.{AwaitsNoMore, HasNoMore, fields_of}
+use Rattle.place_model.specs.RecoveryWrites.{IsOfRecovery, IsOfOpening}
+use Rattle.place_model.specs.Awaiting.{AwaitsNoMore, HasNoMore, fields_of}
 
 -- Neither tags nor data nor sections have that sector.
 tag_behind : (g : Geometry) (b i : ℕ) → 8 ≤ (tag_byte_at g b i).sector

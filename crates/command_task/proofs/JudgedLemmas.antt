@@ -28,21 +28,20 @@ use Rattle.bitmap_model.proofs.BitLemmas.{is_dirty-sector}
 use Rattle.bitmap_model.proofs.CutOfLemmas.{cells_of-clean}
 use Rattle.bitmap_device.specs.declared.parts.BitmapParts.{BitmapParts}
 use Rattle.bitmap_device.specs.Device.{IsBitmapped, kept as bitmap_kept}
-use Rattle.device_opening.specs.Changing.{IsOfBitmapOpening}
-use Rattle.device_opening.specs.JournalMaking.{IsOfDirectOpening, IsOfJournalOpening}
+use Rattle.change_model.specs.OpeningWrites.{IsOfBitmapOpening, IsOfDirectOpening, IsOfJournalOpening}
 use Rattle.device_parts.specs.declared.condition.Condition.TheVariants.{Working}
 use Rattle.device_parts.specs.declared.parts.Parts.{Parts}
 use Rattle.device_parts.specs.Device.{IsOfSameBlocks, Standing, opened_standing}
-use Rattle.device.specs.Awaiting.{HasNoMore, fields_of}
+use Rattle.place_model.specs.Awaiting.{HasNoMore, fields_of}
 use Rattle.device.specs.declared.mode.DeviceParts.{DeviceParts}
 use Rattle.device.specs.declared.mode.Mode as Parts_
 use Rattle.device.specs.declared.mode.Mode.TheVariants as InMode
 use Rattle.device.specs.Device.{IsDevice, IsDeviceIn, kind_by, kind_of, mode_of}
-use Rattle.device.specs.Tags.{KeepsTagsOf}
-use Rattle.device.specs.Writes.{IsMovedHead, IsOfRun}
+use Rattle.place_model.specs.KeptTags.{KeepsTagsOf}
+use Rattle.place_model.specs.RunWrites.{IsMovedHead, IsOfRun}
 use Rattle.device.proofs.AwaitingLemmas.{fields_read}
-use Rattle.command_task.specs.Opening.{HasAllTags, HasMadeTags, HasTagsBy, IsOfOpeningIn, KeepsClearTags, opened_geometry}
-use Rattle.command_task.specs.Outset.{geometry_on}
+use Rattle.command_model.specs.Opening.{HasAllTags, HasMadeTags, HasTagsBy, IsOfOpeningIn, KeepsClearTags, opened_geometry}
+use Rattle.command_model.specs.Outset.{geometry_on}
 use Rattle.command_task.proofs.HeadLemmas.{no_more_opened}
 
 -- The fields of the format of an image that can be read are those of its first sector.

@@ -21,12 +21,12 @@ use Rattle.judging_model.specs.Faults.{ImageFault}
 use Rattle.device.specs.Opening.{fault_in_mode, asked_mode}
 use Rattle.place_model.specs.Format.{DiskFormat, format_on}
 use Rattle.device_model.specs.Refusals as Refusals
-use Rattle.recovery_laws.specs.Refusals.{read_fault_of}
+use Rattle.place_model.specs.Refusals.{read_fault_of}
 use Rattle.resize_model.specs.Refusals.{resize_fault_of}
 use Rattle.resize_model.specs.Resized.{resized_text}
-use Rattle.command_task.specs.Resizing.{outset_by_resize, Recovers, resizing_outset}
+use Rattle.command_model.specs.Resizing.{outset_by_resize, Recovers, resizing_outset}
 use Rattle.salvage_model.specs.Salvaging.{block_text, counts_text, verdict_text}
-use Rattle.command_task.specs.Salvaging.{outset_by_salvage, salvage_outset}
+use Rattle.command_model.specs.Salvaging.{outset_by_salvage, salvage_outset}
 use Rattle.salvage_model.specs.Verdicts.{Verdict, is_good, salvaged_bytes, verdict_on}
 use Rattle.image_refusal.specs.declared.dump_fault.DumpFault.{DumpFault}
 use Rattle.image_refusal.specs.declared.dump_fault.DumpFault.TheVariants as DumpFaults
@@ -39,17 +39,18 @@ use Rattle.formatting_model.specs.Written.{IsOfNewImage}
 use Rattle.command_task.specs.declared.asked.Asked.{Asked}
 use Rattle.command_task.specs.declared.asked.Task.{Task}
 use Rattle.command_task.specs.declared.asked.Task.TheVariants as Tasks
-use Rattle.command_task.specs.Checking.{check_outset, counts_line, bad_line, outset_by_check}
-use Rattle.command_task.specs.Dumping.{dump_outset, outset_by_dump}
-use Rattle.command_task.specs.Exercising.{exercise_image, exercise_outset, outset_by_exercise}
-use Rattle.command_task.specs.Making.{IsLeftByMaking, format_outset, formatted_text, outset_by_format}
+use Rattle.command_model.specs.Checking.{check_outset, counts_line, bad_line, outset_by_check}
+use Rattle.command_model.specs.Dumping.{dump_outset, outset_by_dump}
+use Rattle.command_model.specs.Exercising.{exercise_image, exercise_outset, outset_by_exercise}
+use Rattle.command_model.specs.Making.{IsLeftByMaking, format_outset, formatted_text, outset_by_format}
 use Rattle.run_model.specs.CommandRun.{Outset, RefusedBy, RunsOn, Prints, Makes, Exercises, ReadsOn, Changes, Serves}
 use Rattle.command_task.proofs.TextsLemmas.{BeginsText}
 use Rattle.device.specs.declared.opening.OpenMode.{OpenMode}
 use Rattle.device.specs.declared.opening.OpenMode.TheVariants.{Bitmap, Direct, Journal, Recovery}
 use Rattle.place_model.specs.Kind.{kind_in}
-use Rattle.command_task.specs.Refusing.{ending_by_head, ending_by_refusal}
-use Rattle.command_task.specs.Outset.{begun_on, task_outset, judged_outset, run_outset, keyed_outset, asked_outset}
+use Rattle.command_model.specs.Refusing.{ending_by_head, ending_by_refusal}
+use Rattle.command_task.specs.Outset.{begun_on, task_outset, run_outset, keyed_outset, asked_outset}
+use Rattle.command_model.specs.Outset.{judged_outset}
 
 -- ---- what a command starts on
 

@@ -25,8 +25,8 @@ use Rattle.recalculation.specs.declared.recalculating.Recalculation.{Recalculati
 use Rattle.recalculation.specs.Awaiting.{awaiting_of}
 use Rattle.recalculation.specs.Position.{is_same_position}
 use Rattle.recalculation.specs.Recalculation.{HasFields, IsRecalculationOf, fields_left, fields_or}
-use Rattle.device.specs.Awaiting.{fields_of}
-use Rattle.command_task.specs.Closed.{is_from}
+use Rattle.place_model.specs.Awaiting.{fields_of}
+use Rattle.command_model.specs.Closed.{is_from}
 
 -- ---- regions
 

@@ -9,7 +9,7 @@ use Rattle.run_model.specs.Ending.{Ending, Complete, Refused, Failed, NoMemory}
 use Rattle.run_model.specs.declared.key_refusal.KeyRefusal.{KeyRefusal}
 use Rattle.device_model.specs.Mode.{DeviceFormat}
 use Rattle.device_model.specs.Progress.{DeviceState}
-use Rattle.device_model.specs.ScriptBytes.{is_too_long}
+use Rattle.device_model.specs.ScriptBytes.{is_too_long, most_piece}
 use Rattle.run_model.specs.ScriptRun.{ScriptRun, ScriptStep, IsRunUpTo, IsRunOf, only_ends, texts_of}
 use Rattle.nbd_model.specs.Stream.{most_stream, requests_of}
 use Rattle.nbd_model.specs.Session.{session_deeds}
@@ -25,22 +25,22 @@ use Rattle.formatting_model.specs.declared.new_image.NewImage.{NewImage}
 use Rattle.command_task.specs.declared.asked.Asked.{Asked}
 use Rattle.command_task.specs.declared.asked.Task.{Task}
 use Rattle.command_task.specs.declared.asked.Task.TheVariants as Tasks
-use Rattle.command_task.specs.Exercising.{exercise_image}
-use Rattle.command_task.specs.Making.{IsMadeInOrder}
+use Rattle.command_model.specs.Exercising.{exercise_image}
+use Rattle.command_model.specs.Making.{IsMadeInOrder}
 use Rattle.command_task.specs.Words.{key_file_of}
-use Rattle.script_reader.specs.Reading.{most_piece}
 use Rattle.run_model.specs.CommandRun.{Exercising, Making, Outset, RefusedBy, RunsOn, Prints, Makes, Exercises, ReadsOn, Changes, Serves, Changing, IsSessionRun, IsAfterChanging, IsComplete, IsFromOutside, IsEndedShort, IsAtMoment, IsAfterExercise, IsAfterMaking, IsRunAt, IsUntouched, MayStandAt, only_prints}
 use Rattle.command_task.specs.declared.telling.Telling.TheVariants.{Lines}
-use Rattle.command_task.specs.Opening.{HasReadIn, HasReadOn, HasRunIn, HasRunOn}
+use Rattle.command_task.specs.Opening.{HasRunIn, HasRunOn}
+use Rattle.command_model.specs.Opening.{HasReadIn, HasReadOn}
 use Rattle.command_task.specs.Order.{IsInOrderAt, IsInOrderFor, IsInOrderUnder}
-use Rattle.command_task.specs.Running.{HasReadTo}
-use Rattle.script_lines.specs.Taken.{HoldsText}
+use Rattle.command_model.specs.Running.{HasReadTo}
+use Rattle.command_model.specs.Taken.{HoldsText}
 use Rattle.command_task.proofs.RunningLemmas.{complete_prints, told_further, told_nothing}
 use Rattle.command_task.proofs.TextsLemmas.{none_short}
 use Rattle.stream_io.specs.Stream.{held_with}
 use Rattle.device.specs.Opening.{asked_mode}
 use Rattle.device.proofs.TagsLemmas.{still_kept}
-use Rattle.command_task.specs.Outset.{key_by}
+use Rattle.command_model.specs.Outset.{key_by}
 use Rattle.run_model.specs.declared.outer.Outer.TheVariants as outers
 use Rattle.command_task.proofs.OutsetLemmas.{IsFine, IsOfRun, IsSound}
 

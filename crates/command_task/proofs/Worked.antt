@@ -1,32 +1,29 @@
--- Values of the definitions, computed: what a run in bitmap mode starts on, and which geometry its device has, of an image
--- with a journal and of one with a bitmap.
-use Rattle.std.proofs.Common.{◌≡◌, ℕ, ◌==◌, true, false, if◌then◌else◌, refl, None, Some, [], ◌∷◌, replicate}
+-- Values of the definitions, computed: what a run and a session start on, of an image with a journal and of one with a
+-- bitmap.
+use Rattle.std.proofs.Common.{◌≡◌, ◌==◌, true, if◌then◌else◌, refl, None, Some, [], ◌∷◌, replicate}
 use Rattle.std.specs.Prelude.{codes}
 use Rattle.disk_model.specs.Disk.{Image}
-use Rattle.device_model.specs.Refusals.{ByConsent, BySuperblock}
+use Rattle.device_model.specs.Refusals.{ByConsent}
 use Rattle.run_model.specs.Ending.{Refused, Failed, ByImage, status_of}
 use Rattle.device_model.specs.Mode.{Bitmap, Direct, Journal, Recovery}
 use Rattle.image_model.specs.Bitmap.{is_bit_set}
 use Rattle.image_model.specs.CommitId.{id_in, number_of}
-use Rattle.image_model.specs.Geometry.{bitmap_sectors_for, entries_per_sector, entry_size, fitting_log2_region, geometry_of, layout_of, regions_for, section_entries, section_sectors, sector_at, tag_run_of}
+use Rattle.image_model.specs.Geometry.{bitmap_sectors_for, entries_per_sector, entry_size, fitting_log2_region, geometry_of, regions_for, section_entries, section_sectors, sector_at, tag_run_of}
 use Rattle.image_model.specs.Grid.{blank_bound, grid_with}
 use Rattle.image_model.specs.Openable.{journal_fault_of}
 use Rattle.image_model.specs.Scan.{walk_of_grid}
 use Rattle.image_model.specs.Section.{entry_at, is_used}
-use Rattle.image_model.specs.Superblock.{Superblock, fields_in, superblock_of}
+use Rattle.image_model.specs.Superblock.{fields_in, superblock_of}
 use Rattle.image_model.specs.Walk.{plan_of}
-use Rattle.image_model.specs.declared.super_fields.SuperFault.TheVariants.{Magic}
 use Rattle.place_model.specs.Kind.{kind_in}
-use Rattle.place_model.proofs.WorkedDisk.{fresh_bitmap, fresh_journal, journal_format, zeros_journal}
+use Rattle.place_model.proofs.WorkedDisk.{fresh_bitmap, fresh_journal, zeros_journal}
 use Rattle.judging_model.specs.declared.consent.Consent.TheVariants.{Withheld}
 use Rattle.device.specs.declared.opening.OpenMode.TheVariants as Modes
 use Rattle.run_model.specs.CommandRun.{ReadsOn, RefusedBy, RunsOn, Serves}
 use Rattle.nbd_command.specs.ServedRun as ends
-use Rattle.command_task.specs.Opening.{geometry_of_device, changes_mode_of, opened_geometry}
 use Rattle.command_task.specs.declared.asked.Task.TheVariants as Tasks
 use Rattle.command_task.specs.declared.telling.Telling.TheVariants.{Lines, Replies}
 use Rattle.command_task.specs.Outset.{run_outset, nbd_outset}
-use Rattle.command_task.specs.Salvaging.{salvage_outset}
 use Rattle.command_task.specs.Serving.{most_taken_at, session_ending}
 use Rattle.command_task.specs.Telling.{last_text}
 use Rattle.run_model.specs.declared.outer.Outer.TheVariants as outers
@@ -75,11 +72,6 @@ run_outset-recovery : run_outset Modes.Recovery None 112 zeros_journal ≡ Reads
 unfolding superblock_of fields_in geometry_of sector_at tag_run_of bitmap_sectors_for regions_for entry_size entries_per_sector section_entries section_sectors
 run_outset-recovery = refl
 
--- A salvage of an image without a magic is refused.
-salvage_outset-none : salvage_outset None 112 (λ (n : ℕ). replicate 512 0) ≡ RefusedBy (Refused (ByImage (BySuperblock Magic)))
-unfolding superblock_of
-salvage_outset-none = refl
-
 -- ---- what is taken of a source, and what is written last
 
 most_taken_at-values : (most_taken_at (Tasks.Serve (Modes.Direct Withheld)) ≡ 1099511693312) × (most_taken_at (Tasks.Run (Modes.Direct Withheld)) ≡ 16777217)
@@ -92,47 +84,3 @@ last_text-values = (refl, refl)
 session_ending-values : (status_of (session_ending (ends.Complete true)) ≡ 1) × (status_of (session_ending ends.RefusedStream) ≡ 2)
     × (status_of (session_ending ends.SourceFailed) ≡ 5)
 session_ending-values = (refl, refl, refl)
-
--- ---- the geometry
-
--- With 2^20 blocks and regions of one the bitmap would not fit the journal of 88 sectors: behind its making the regions are of
--- four blocks, and all else is as it was.
-abbrev large : Superblock
-large = record journal_format.superblock { provided = 0x100000; log2_region = 0 }
-
-opened_geometry-raised : opened_geometry Bitmap large (layout_of large) ≡ record (layout_of large) { log2_region = 2 }
-unfolding fitting_log2_region bitmap_sectors_for regions_for entry_size entries_per_sector section_entries section_sectors tag_run_of
-opened_geometry-raised = refl
-
--- In journal mode it stays, and so it does where there is a bitmap.
-opened_geometry-journal : opened_geometry Journal large (layout_of large) ≡ layout_of large
-opened_geometry-journal = refl
-
-opened_geometry-bitmap : opened_geometry Bitmap (record large { flags = 0xc }) (layout_of large) ≡ layout_of large
-opened_geometry-bitmap = refl
-
--- So of these disks a bitmap is made in bitmap mode of the one with a journal alone, and a journal in the two other modes of
--- the one with a bitmap. Regions of 2^15 blocks fit as they are.
-changes_mode_of-journal : changes_mode_of (kind_in Bitmap None 112) fresh_journal ≡ true
-unfolding fields_in
-changes_mode_of-journal = refl
-
-changes_mode_of-bitmap : changes_mode_of (kind_in Bitmap None 112) fresh_bitmap ≡ false
-unfolding fields_in
-changes_mode_of-bitmap = refl
-
-changes_mode_of-same : changes_mode_of (kind_in Journal None 112) fresh_journal ≡ false
-unfolding fields_in
-changes_mode_of-same = refl
-
-changes_mode_of-back : changes_mode_of (kind_in Journal None 112) fresh_bitmap ≡ true
-unfolding fields_in
-changes_mode_of-back = refl
-
-changes_mode_of-direct : changes_mode_of (kind_in Direct None 112) fresh_bitmap ≡ true
-unfolding fields_in
-changes_mode_of-direct = refl
-
-geometry_of_device-fresh : geometry_of_device (kind_in Bitmap None 112) fresh_journal journal_format.geometry ≡ journal_format.geometry
-unfolding fields_in fitting_log2_region bitmap_sectors_for regions_for entry_size entries_per_sector section_entries section_sectors tag_run_of
-geometry_of_device-fresh = refl

@@ -7,11 +7,11 @@ use Rattle.place_model.specs.Format.{format_on}
 use Rattle.device_opening.proofs.MomentsLemmas.{each_from}
 use Rattle.device.specs.declared.opening.OpenMode.{OpenMode}
 use Rattle.device.specs.declared.opening.OpenMode.TheVariants.{Bitmap, Direct, Journal, Recovery}
-use Rattle.device.specs.Awaiting.{fields_of}
+use Rattle.place_model.specs.Awaiting.{fields_of}
 use Rattle.device.specs.Opening.{WritesInOpening, asked_mode}
-use Rattle.device.specs.Tags.{KeepsStill}
-use Rattle.command_task.specs.Opening.{IsOfOpeningIn}
-use Rattle.command_task.specs.Outset.{geometry_on}
+use Rattle.place_model.specs.KeptTags.{KeepsStill}
+use Rattle.command_model.specs.Opening.{IsOfOpeningIn}
+use Rattle.command_model.specs.Outset.{geometry_on}
 use Rattle.command_task.proofs.JudgedLemmas.{bitmap_opening, direct_opening, journal_opening}
 
 -- An opening in recovery mode leaves the disk as it was.

@@ -7,14 +7,15 @@ use Rattle.disk_model.specs.Identity.{DiskIdentity}
 use Rattle.disk_model.specs.Moments.{EachMoment, HasNow}
 use Rattle.run_model.specs.Ending.{Ending}
 use Rattle.device.specs.Opening.{asked_mode}
-use Rattle.device.specs.Tags.{KeepsStill}
+use Rattle.place_model.specs.KeptTags.{KeepsStill}
 use Rattle.device.specs.declared.opening.OpenMode.{OpenMode}
 use Rattle.command_ending.specs.declared.ended.Ended.{Ended}
 use Rattle.command_ending.specs.declared.ended.Ended.TheVariants as Endings
 use Rattle.run_model.specs.CommandRun.{Outset}
 use Rattle.command_task.specs.declared.asked.Task.{Task}
 use Rattle.command_task.specs.declared.telling.Telling.{Telling}
-use Rattle.command_task.specs.Opening.{HasReadIn, HasRunIn, HasRunOn, IsMomentOn}
+use Rattle.command_task.specs.Opening.{HasRunIn, HasRunOn, IsMomentOn}
+use Rattle.command_model.specs.Opening.{HasReadIn}
 use Rattle.command_task.specs.Order.{HasMomentsAt}
 use Rattle.command_task.specs.Outset.{task_outset, run_outset}
 use Rattle.command_task.specs.Running.{IsBeforeScript}

@@ -9,9 +9,6 @@ pub mod Running
 pub mod Unopened
 pub mod Calls
 pub mod Refusing
-pub mod Checking
 pub mod Dumping
-pub mod Salvaging
 pub mod Resizing
-pub mod Exercising
 pub mod Making

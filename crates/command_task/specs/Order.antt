@@ -1,19 +1,18 @@
 -- The moments of a command, and the order in which they come.
 use Rattle.std.specs.Prelude.{ℕ, List, Option, Some, None, Result, Ok, Err}
 use Rattle.disk_model.specs.Disk.{Content}
-use Rattle.disk_model.specs.Moments.{EachMoment}
+use Rattle.disk_model.specs.Moments.{EachMoment, KeepsMoments}
 use Rattle.run_model.specs.declared.key_refusal.KeyRefusal.{KeyRefusal}
 use Rattle.device.specs.Opening.{asked_mode}
-use Rattle.device.specs.Tags.{KeepsStill}
-use Rattle.recovery_laws.specs.MomentLaws.{KeepsMoments}
+use Rattle.place_model.specs.KeptTags.{KeepsStill}
 use Rattle.resize_model.specs.Left.{IsInResizeOrder}
 use Rattle.command_task.specs.declared.asked.Asked.{Asked}
 use Rattle.command_task.specs.declared.asked.Task.{Task}
 use Rattle.command_task.specs.declared.asked.Task.TheVariants as Tasks
-use Rattle.command_task.specs.Exercising.{IsExercisedInOrder}
-use Rattle.command_task.specs.Making.{IsMadeInOrder}
+use Rattle.command_model.specs.Exercising.{IsExercisedInOrder}
+use Rattle.command_model.specs.Making.{IsMadeInOrder}
 use Rattle.command_task.specs.Opening.{IsMomentAt}
-use Rattle.command_task.specs.Outset.{key_by}
+use Rattle.command_model.specs.Outset.{key_by}
 use Rattle.command_task.specs.Words.{key_file_of}
 
 -- A new image is made in its order, one to be exercised too, and until it is made only sectors that it has are written;

@@ -1,7 +1,4 @@
 -- How a command ends whose image is not opened.
-use Rattle.device_model.specs.Refusals.{BySuperblock, ByGeometry, ByConsent, ByJournal}
-use Rattle.run_model.specs.Ending as runs
-use Rattle.run_model.specs.Ending.{Ending}
 use Rattle.image_refusal.specs.declared.call_fault.CallFault.{CallFault}
 use Rattle.image_refusal.specs.declared.call_fault.CallFault.TheVariants.{Memory, Disk, Refused}
 use Rattle.image_refusal.specs.declared.open_fault.HeadFault.{HeadFault}
@@ -9,7 +6,6 @@ use Rattle.image_refusal.specs.declared.open_fault.HeadFault.TheVariants.{Super,
 use Rattle.image_refusal.specs.declared.open_fault.OpenFault.{OpenFault}
 use Rattle.image_refusal.specs.declared.open_fault.OpenFault.TheVariants as Causes
 use Rattle.image_refusal.specs.declared.open_fault.OpenFault.TheVariants.{Head, Journal}
-use Rattle.judging_model.specs.Faults as faults
 use Rattle.command_ending.specs.declared.ended.Ended.{Ended}
 use Rattle.command_ending.specs.declared.ended.Ended.TheVariants as Endings
 use Rattle.command_ending.specs.declared.image_fault.ImageFault.{ImageFault}
@@ -29,14 +25,3 @@ ended_by_opening Disk = Endings.Failed outers.Disk
 ended_by_opening (Refused (Head fault)) = Endings.Refused (refusals.Image (head_fault fault))
 ended_by_opening (Refused (Causes.Consent flags)) = Endings.Refused (refusals.Image (Faults.Consent flags))
 ended_by_opening (Refused (Journal fault)) = Endings.Refused (refusals.Image (Faults.Journal fault))
-
--- The ending of one whose image is refused by its first sector,
-abbrev pub ending_by_head : HeadFault → Ending
-ending_by_head (Super fault) = runs.Refused (runs.ByImage (BySuperblock fault))
-ending_by_head (Geom fault) = runs.Refused (runs.ByImage (ByGeometry fault))
-
--- or by that, for want of consent, or by its journal.
-abbrev pub ending_by_refusal : faults.ImageFault → Ending
-ending_by_refusal (faults.ByHead fault) = ending_by_head fault
-ending_by_refusal (faults.ByConsent flags) = runs.Refused (runs.ByImage (ByConsent flags))
-ending_by_refusal (faults.ByJournal fault) = runs.Refused (runs.ByImage (ByJournal fault))

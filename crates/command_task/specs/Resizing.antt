@@ -1,22 +1,12 @@
--- What `resize` starts on, and how one ends whose image is not resized.
-use Rattle.std.specs.Prelude.{ℕ, List, Option, Some, None}
-use Rattle.disk_model.specs.Disk.{Content, Image}
-use Rattle.place_model.specs.Format.{format_on}
+-- How a `resize` ends whose image is not resized.
+use Rattle.disk_model.specs.Disk.{Image}
 use Rattle.image_refusal.specs.declared.call_fault.CallFault.{CallFault}
 use Rattle.image_refusal.specs.declared.call_fault.CallFault.TheVariants.{Memory, Disk, Refused}
 use Rattle.image_refusal.specs.declared.resize_fault.ResizeFault.{ResizeFault}
 use Rattle.image_refusal.specs.declared.resize_fault.ResizeFault.TheVariants.{Head, Growth, Journal}
-use Rattle.image_resizing.specs.Writing.{IsOfRecovering}
-use Rattle.device_model.specs.Refusals as model
-use Rattle.resize_model.specs.Left.{IsLeftByResize, IsResizedTo}
-use Rattle.resize_model.specs.Refusals.{resize_fault_of}
-use Rattle.resize_model.specs.Resized.{resized_provided, resized_text}
-use Rattle.resize_model.specs.Written.{IsWrittenByResize}
 use Rattle.command_ending.specs.declared.ended.Ended.{Ended}
 use Rattle.command_ending.specs.declared.ended.Ended.TheVariants as Endings
 use Rattle.command_ending.specs.declared.image_fault.ImageFault.TheVariants as Faults
-use Rattle.run_model.specs.CommandRun.{Changing, Changes, Outset, RefusedBy}
-use Rattle.run_model.specs.Ending as runs
 use Rattle.run_model.specs.declared.outer.Outer.TheVariants as outers
 use Rattle.command_ending.specs.declared.refusal.Refusal.TheVariants as refusals
 use Rattle.command_task.specs.Refusing.{head_fault}
@@ -28,30 +18,3 @@ ended_by_resize Disk = Endings.Failed outers.Disk
 ended_by_resize (Refused (Head fault)) = Endings.Refused (refusals.Image (head_fault fault))
 ended_by_resize (Refused (Growth fault)) = Endings.Refused (refusals.Image (Faults.Geom fault))
 ended_by_resize (Refused (Journal fault)) = Endings.Refused (refusals.Image (Faults.Journal fault))
-
--- What the recovery of the image writes before it grows, under a key, on a disk of so many sectors.
-abbrev pub Recovers : (key : Option (List ℕ)) → (sectors : ℕ) → Image → (start c : Content) → Type 0
-Recovers key sectors image start c = IsOfRecovering (format_on key sectors image).geometry start c
-
--- The resize of an image on such a disk, whose recovery writes this.
-abbrev pub resizing_of : (Recovers : (start c : Content) → Type 0) → (key : Option (List ℕ)) → (sectors : ℕ) → Image
-    → Changing
-resizing_of Recovers key sectors image =
-    let d = format_on key sectors image in
-    record {
-      text = resized_text d.superblock.provided (resized_provided d.superblock sectors);
-      MayBeLeft = IsLeftByResize key sectors;
-      IsChanged = IsResizedTo key sectors;
-      IsWritten = IsWrittenByResize Recovers d;
-    }
-
--- By why the image is refused, if it is: it is resized, or it is refused.
-abbrev pub outset_by_resize : (Recovers : (start c : Content) → Type 0) → (key : Option (List ℕ)) → (sectors : ℕ)
-    → Image → Option model.ImageFault → Outset
-outset_by_resize Recovers key sectors image None = Changes (resizing_of Recovers key sectors image)
-outset_by_resize Recovers key sectors image (Some fault) = RefusedBy (runs.Refused (runs.ByImage fault))
-
--- What a resize starts on, on such a disk with this image.
-abbrev pub resizing_outset : (key : Option (List ℕ)) → (sectors : ℕ) → Image → Outset
-resizing_outset key sectors image =
-    outset_by_resize (Recovers key sectors image) key sectors image (resize_fault_of key sectors image)

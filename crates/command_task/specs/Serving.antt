@@ -1,14 +1,13 @@
--- A stream of requests that is served on a device: how far its session came, and how much of the stream is read.
-use Rattle.std.specs.Prelude.{◌≡◌, ℕ, suc, ◌+◌, ◌≤◌, true, false, List, [], ◌++◌, length, take, flat_map, Option, Some, None, Result, Ok, Err, All}
+-- A stream of requests that is served on a device: how far its session came, and how many bytes are taken at
+-- most.
+use Rattle.std.specs.Prelude.{◌≡◌, ℕ, ◌+◌, true, false, List, [], Option, Some, None, Result, Ok, Err}
 use Rattle.disk_model.specs.Disk.{Content, Image}
 use Rattle.disk_model.specs.Moments.{HasNow}
 use Rattle.device_model.specs.Device.{DeviceKind}
 use Rattle.run_model.specs.Ending as endings
 use Rattle.run_model.specs.Ending.{Ending}
 use Rattle.device_model.specs.History.{Change}
-use Rattle.nbd_model.specs.Deeds.{text_in}
-use Rattle.nbd_model.specs.Session.{Deed, IsSessionOf, ending_in, most_piece, opened_session, take_pieces}
-use Rattle.nbd_model.specs.Stream as streams
+use Rattle.nbd_model.specs.Session.{Deed, IsSessionOf, most_piece}
 use Rattle.nbd_model.specs.Stream.{most_stream, requests_of}
 use Rattle.nbd_command.specs.ServedRun.{Complete, DiskFailed, IsEndedBy, NoMemory, RefusedStream, SessionEnd, SinkFailed, SourceFailed}
 use Rattle.run_model.specs.ServedRun.{EndsUnbegun}
@@ -17,7 +16,7 @@ use Rattle.run_model.specs.CommandRun.{IsOfDevice, IsOfScriptRun}
 use Rattle.command_task.specs.declared.asked.Asked.{Asked}
 use Rattle.command_task.specs.declared.asked.Task.{Task}
 use Rattle.command_task.specs.declared.asked.Task.TheVariants as Tasks
-use Rattle.script_lines.specs.Taken.{HoldsText, most_taken}
+use Rattle.device_model.specs.ScriptBytes.{most_taken}
 use Rattle.run_model.specs.declared.outer.Outer.TheVariants as outers
 
 -- ---- how far it came
@@ -62,19 +61,3 @@ most_taken_at task = most_taken
 abbrev pub most_taken_for : Option Asked → ℕ
 most_taken_for None = most_taken
 most_taken_for (Some asked) = most_taken_at asked.task
-
--- No more of a stream is taken than pieces in which all that is asked is replied to and nothing ends the requests, and
--- one piece behind those. Its source is called only where all that it gave is replied to.
-pub record HasReadStream (kind : DeviceKind) (image : Image) (stream : List ℕ) (left held_before held : Option (List ℕ))
-    (failed : Type 0) : Type 0 where
-  pub pieces : List (List ℕ)
-  pub small : All (λ piece. length piece ≤ most_piece) pieces
-  pub behind : List ℕ
-  pub bytes : stream ≡ flat_map (λ piece. piece) pieces ++ behind
-  pub taken : left ≡ Some behind
-  pub done : ℕ
-  pub but_one : length pieces ≤ suc done
-  pub printed : HoldsText (text_in (take_pieces (kind.format image) (opened_session (kind.opened image))
-      (ending_in [] 0 (take done pieces))).deeds) held_before held
-  pub unended : (requests_of (flat_map (λ piece. piece) (take done pieces))).ending ≡ streams.Ended
-  pub asked : failed → length pieces ≤ done

@@ -27,7 +27,7 @@ use Rattle.direct_device.specs.declared.parts.DirectParts.{DirectParts}
 use Rattle.direct_device.specs.Device.{IsDirect}
 use Rattle.journal_device.specs.declared.parts.JournalParts.{JournalParts}
 use Rattle.journal_device.specs.Device.{IsJournaled}
-use Rattle.device.specs.Awaiting.{AwaitsNoMore, HasNoMore, HasNoMoreIn, fields_of}
+use Rattle.place_model.specs.Awaiting.{AwaitsNoMore, HasNoMore, HasNoMoreIn, fields_of}
 
 -- ---- fields
 

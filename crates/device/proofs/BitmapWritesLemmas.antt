@@ -8,11 +8,11 @@ use Rattle.disk_model.proofs.MomentsLemmas.{EachMoment-weaker, FromStart-weaker,
 use Rattle.image_model.specs.Geometry.{Geometry, data_at, region_of}
 use Rattle.device_model.specs.History.{Change, IsWrittenIn}
 use Rattle.device_model.specs.Mode as Model
-use Rattle.place_model.specs.Tags.{IsOfTags}
+use Rattle.place_model.specs.Tags.{IsOfTags, HoldsTag}
 use Rattle.direct_laws.specs.CallLaws.{AddsTags}
 use Rattle.bitmap_laws.specs.CallLaws.{AddsBits, IsBitmapSector}
-use Rattle.direct_mode.specs.Places.{IsOfData}
-use Rattle.tag_store.specs.Store.{HoldsTag, IsMarkedTags, Store}
+use Rattle.place_model.specs.Places.{IsOfData}
+use Rattle.tag_store.specs.Store.{IsMarkedTags, Store}
 use Rattle.request_slots.specs.Flight.{turn_of}
 use Rattle.request_slots.specs.declared.turn.Turn.{Turn}
 use Rattle.request_slots.specs.declared.turn.Turn.TheVariants as Turns
@@ -25,7 +25,7 @@ use Rattle.bitmap_mode.specs.Closing.{IsOfClose, bits_cleared}
 use Rattle.bitmap_mode.specs.States.{States, counts_of, least_awaiting}
 use Rattle.bitmap_mode.specs.Writing.{IsOfMarkedBlock}
 use Rattle.bitmap_device.specs.Answers.{WritesAs, WritesClean, WritesFor, WritesRecalc, least_to_clean}
-use Rattle.device.specs.Writes.{IsOfRun, WritesOnly}
+use Rattle.place_model.specs.RunWrites.{IsOfRun, WritesOnly}
 use Rattle.device.proofs.WritesLemmas.{WritesOnly-kept}
 
 module _ (g : Geometry) (entry : Image) (changes : List Change) where

@@ -21,12 +21,12 @@ use Rattle.place_model.proofs.ReplayLemmas.{same_left_law, same_opening_law}
 use Rattle.place_model.proofs.TagsLemmas.{tag_byte-behind}
 use Rattle.direct_laws.specs.CallLaws.{ReadsImage}
 use Rattle.direct_laws.specs.MomentLaws.{IsLeftNow, IsLeftThrough}
-use Rattle.direct_mode.specs.Places.{IsOfPlaces}
+use Rattle.place_model.specs.Places.{IsOfPlaces}
 use Rattle.recalculate_laws.specs.Formats.{under_fields}
 use Rattle.recalculation.specs.Recalculation.{HasFieldsThrough, IsOfTagsOrHead}
 use Rattle.device_parts.specs.Device.{Standing}
 use Rattle.device.proofs.AwaitingLemmas.{HasHeads, heads_read}
-use Rattle.device_opening.specs.Emptied.{HasEmptyJournal, IsEmptyJournal}
+use Rattle.place_model.specs.EmptyJournal.{HasEmptyJournal, IsEmptyJournal}
 use Rattle.device_opening.proofs.EmptiedLemmas.{empty_replays_nothing, empty_same}
 
 -- Each image at each moment of a call, and at its end, has an empty journal, by its own fields.

@@ -14,14 +14,14 @@ use Rattle.place_model.specs.Format.{DiskFormat}
 use Rattle.bitmap_laws.proofs.EventLemmas.{served_law as bitmap_served_law}
 use Rattle.bitmap_laws.proofs.LeastLemmas.{least_found}
 use Rattle.direct_laws.proofs.EventLemmas.{served_law}
-use Rattle.direct_mode.specs.Places.{IsOfPlaces, WritesPlaces}
+use Rattle.place_model.specs.Places.{IsOfPlaces, WritesPlaces}
 use Rattle.direct_mode.proofs.PlacesLemmas.{IsOfPlaces-wider}
 use Rattle.recalculate_laws.specs.Formats.{AwaitsWork}
 use Rattle.recalculate_laws.proofs.FormatsLemmas.{work_flag_law}
 use Rattle.recalculation.specs.declared.recalculating.Recalculation.{Recalculation}
 use Rattle.recalculation.specs.Recalculation.{IsOfTagsOrHead, WritesRegion, next_of}
 use Rattle.recalculation.proofs.KeptLemmas.{next_is}
-use Rattle.tag_store.specs.Store.{HoldsTag}
+use Rattle.place_model.specs.Tags.{HoldsTag}
 use Rattle.request_slots.specs.Flight.{is_in_flight, turn_of}
 use Rattle.device_model.specs.declared.actor.Actor.{Actor}
 use Rattle.device_model.specs.declared.actor.Actor.TheVariants as Actors
@@ -35,9 +35,9 @@ use Rattle.bitmap_device.specs.Device.{kept as bitmap_kept}
 use Rattle.device.specs.declared.mode.Mode.{Mode}
 use Rattle.device.specs.declared.mode.Mode.TheVariants.{Bitmap, Direct, Journal, Recovery}
 use Rattle.device.specs.Answers.{WritesInClose, WritesInServe, WritesInStep}
-use Rattle.device.specs.Awaiting.{fields_of}
+use Rattle.place_model.specs.Awaiting.{fields_of}
 use Rattle.device.specs.Device.{IsDeviceIn, IsEmptied}
-use Rattle.device.specs.Writes.{IsOfRun, WritesOnly}
+use Rattle.place_model.specs.RunWrites.{IsOfRun, WritesOnly}
 use Rattle.device.proofs.ModeLemmas.{own_direct, own_journal, plain_bitmap}
 use Rattle.device.proofs.MovingLemmas.{own_places}
 use Rattle.device.proofs.NextWritesLemmas.{next_is_written}

@@ -19,7 +19,7 @@ use Rattle.place_model.proofs.EachLemmas.{all_append, all_drop, all_flat, all_ge
 use Rattle.journal_laws.specs.Device.{block_of, freed_count}
 use Rattle.journal_laws.proofs.RingLemmas.{held_at}
 use Rattle.direct_mode.specs.Cells.{IsOfBlockOrTags}
-use Rattle.direct_mode.specs.Places.{IsOfPlaces, IsOfWritten}
+use Rattle.place_model.specs.Places.{IsOfPlaces, IsOfWritten}
 use Rattle.journal_model.specs.Entries.{IsBlockEntry}
 use Rattle.journal_model.specs.JournaledDisk.{JournaledDisk}
 use Rattle.journal_model.specs.Ring.{JournalRing, entries_of, next_batch, with_commit}
@@ -29,10 +29,11 @@ use Rattle.recalculate_laws.proofs.FormatsLemmas.{work_flag_law}
 use Rattle.recalculation.specs.declared.recalculating.Recalculation.{Recalculation}
 use Rattle.recalculation.specs.Recalculation.{HasFieldsThrough, IsOfTagsOrHead, WritesRegion, next_of}
 use Rattle.recalculation.proofs.KeptLemmas.{next_is}
-use Rattle.tag_store.specs.Store.{HoldsTag, IsMarkedTags, IsOutForTag, Store}
+use Rattle.tag_store.specs.Store.{IsMarkedTags, IsOutForTag, Store}
+use Rattle.place_model.specs.Tags.{HoldsTag}
 use Rattle.device_opening.specs.Moves.{WritesEntry}
 use Rattle.device_opening.specs.Placement.{placed_in}
-use Rattle.device_opening.specs.Writes.{IsOfPlacing}
+use Rattle.place_model.specs.RecoveryWrites.{IsOfPlacing}
 use Rattle.journal_device.specs.Closing.{WritesAll, WritesEntries, entries_to_place}
 use Rattle.journal_device.specs.Commits.{WritesBatches, after_batch_of}
 use Rattle.journal_device.specs.Journal.{PlacedRing, after_put, sections_of}
@@ -48,9 +49,9 @@ use Rattle.journal_device.specs.Answers.{WritesAs, WritesClose, WritesFor, Write
 use Rattle.journal_device.specs.Device.{IsJournaled, awaiting_in, kept, standing_of, standing_on as journal_standing}
 use Rattle.journal_device.proofs.DoneLemmas.{stands_now, works_now}
 use Rattle.journal_device.specs.Standing.{StandsAs}
-use Rattle.device.specs.Awaiting.{fields_of}
+use Rattle.place_model.specs.Awaiting.{fields_of}
 use Rattle.device.specs.Device.{IsInJournalMode}
-use Rattle.device.specs.Writes.{IsAnyBlock, IsInJournal as IsOfJournal, IsOfRun, WritesOnly}
+use Rattle.place_model.specs.RunWrites.{IsAnyBlock, IsInJournal as IsOfJournal, IsOfRun, WritesOnly}
 use Rattle.device.proofs.AwaitingLemmas.{heads_journal, heads_stay}
 use Rattle.device.proofs.EmptiedLemmas.{place_behind}
 

@@ -21,8 +21,9 @@ use Rattle.device.specs.declared.mode.Mode.{Mode}
 use Rattle.device.specs.declared.mode.Mode.TheVariants.{Bitmap, Direct, Journal, Recovery}
 use Rattle.device.specs.Answers.{KeepsClearTags, WritesInClose, WritesInServe, WritesInStep}
 use Rattle.device.specs.Device.{IsDeviceIn}
-use Rattle.device.specs.Tags.{IsLeftOut, IsOfBlock, KeepsStill, KeepsTagsOf, Leaves, LeavesIn}
-use Rattle.device.specs.Writes.{WritesOnly}
+use Rattle.device.specs.Tags.{IsLeftOut, Leaves, LeavesIn}
+use Rattle.place_model.specs.KeptTags.{IsOfBlock, KeepsStill, KeepsTagsOf}
+use Rattle.place_model.specs.RunWrites.{WritesOnly}
 use Rattle.device.proofs.EventWritesLemmas.{close_writes, serve_writes, step_writes}
 use Rattle.device.proofs.ModeLemmas.{condition_now, own_direct, own_journal, plain_bitmap, plain_recovery}
 use Rattle.device.proofs.RunLemmas.{first_of}

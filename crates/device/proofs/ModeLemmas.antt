@@ -13,7 +13,7 @@ use Rattle.place_model.specs.Kind.{kind_in, placed_kind}
 use Rattle.request_slots.specs.Flight.{Flight}
 use Rattle.request_slots.specs.InFlight.{IsFlightOf}
 use Rattle.recalculation.specs.declared.recalculating.Recalculation.{Recalculation}
-use Rattle.device_opening.specs.Emptied.{HasEmptyJournal}
+use Rattle.place_model.specs.EmptyJournal.{HasEmptyJournal}
 use Rattle.device_parts.specs.declared.condition.Condition.{Condition}
 use Rattle.device_parts.specs.declared.condition.Condition.TheVariants.{Working}
 use Rattle.device_parts.specs.declared.parts.Parts.{Parts}
@@ -35,7 +35,7 @@ use Rattle.device.specs.declared.mode.DeviceParts.{DeviceParts}
 use Rattle.journal_device.specs.declared.parts.JournalState.{JournalState}
 use Rattle.device.specs.declared.mode.Mode.{Mode}
 use Rattle.device.specs.declared.mode.Mode.TheVariants.{Bitmap, Direct, Journal, Recovery}
-use Rattle.device.specs.Awaiting.{AwaitsNoMore, fields_of}
+use Rattle.place_model.specs.Awaiting.{AwaitsNoMore, fields_of}
 use Rattle.device.specs.Device.{IsDevice, IsDeviceIn, IsEmptied, IsInJournalMode, any_mode, kind_by, kind_of, with_slots}
 use Rattle.device.proofs.EmptiedLemmas.{StaysEmpty, left_now_empty, left_through_empty, stays_still}
 

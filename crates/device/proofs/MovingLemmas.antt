@@ -6,10 +6,10 @@ use Rattle.disk_model.proofs.MomentsLemmas.{EachMoment-kept, adds_wider}
 use Rattle.image_model.specs.Geometry.{Geometry, IsGeometry, initial}
 use Rattle.image_model.specs.Superblock.{Superblock}
 use Rattle.direct_laws.specs.CallLaws.{ReadsImage}
-use Rattle.direct_mode.specs.Places.{IsOfPlaces}
+use Rattle.place_model.specs.Places.{IsOfPlaces}
 use Rattle.recalculation.specs.declared.recalculating.Recalculation.{Recalculation}
 use Rattle.recalculation.specs.Recalculation.{HasFieldsThrough, IsOfTagsOrHead, WritesRegion, next_of}
-use Rattle.tag_store.specs.Store.{HoldsTag}
+use Rattle.place_model.specs.Tags.{HoldsTag}
 use Rattle.device_model.specs.Mode as Model
 use Rattle.device_model.specs.declared.actor.Actor.{Actor}
 use Rattle.device_model.specs.declared.actor.Actor.TheVariants as Actors
@@ -22,7 +22,7 @@ use Rattle.direct_device.specs.Answers as InDirect
 use Rattle.direct_device.specs.Device.{IsDirect, in_direct}
 use Rattle.journal_device.specs.declared.parts.JournalParts.{JournalParts}
 use Rattle.journal_device.specs.Device.{IsJournaled, in_journal}
-use Rattle.device.specs.Awaiting.{AwaitsNoMore, HasNoMoreIn}
+use Rattle.place_model.specs.Awaiting.{AwaitsNoMore, HasNoMoreIn}
 use Rattle.device.specs.Device.{IsEmptied, IsInJournalMode}
 use Rattle.device.proofs.AwaitingLemmas.{heads_direct, heads_journal, heads_no_more, heads_stay, no_more_behind}
 use Rattle.device.proofs.EmptiedLemmas.{StaysEmpty, head_or_behind, place_behind, stays_read}

@@ -27,8 +27,9 @@ use Rattle.device_model.specs.Mode as Model
 use Rattle.device_model.specs.Mode.{Mode}
 use Rattle.device_parts.specs.Device.{HasOpened, opened_standing}
 use Rattle.device_opening.specs.DirectOpening.{LeavesEmpty}
-use Rattle.device_opening.specs.Emptied.{HasEmptyJournal}
-use Rattle.device_opening.specs.JournalMaking.{IsOfDirectOpening, IsOfJournalOpening, WritesDirect, WritesJournal}
+use Rattle.place_model.specs.EmptyJournal.{HasEmptyJournal}
+use Rattle.device_opening.specs.JournalMaking.{WritesDirect, WritesJournal}
+use Rattle.change_model.specs.OpeningWrites.{IsOfDirectOpening, IsOfJournalOpening}
 use Rattle.device_opening.specs.Opening.{Refuses}
 use Rattle.device_opening.proofs.ApartLemmas.{same_head}
 use Rattle.device_opening.proofs.RefusedLemmas.{same_told}
@@ -36,7 +37,7 @@ use Rattle.journal_device.specs.Device.{in_journal}
 use Rattle.bitmap_device.specs.declared.parts.BitmapParts.{BitmapParts}
 use Rattle.bitmap_device.specs.Device.{in_bitmap}
 use Rattle.recovery_device.specs.Device.{in_recovery}
-use Rattle.device.specs.Awaiting.{AwaitsNoMore, fields_of}
+use Rattle.place_model.specs.Awaiting.{AwaitsNoMore, fields_of}
 use Rattle.device.specs.Device.{any_mode}
 use Rattle.device.specs.declared.mode.DeviceParts.{DeviceParts}
 use Rattle.device.specs.declared.mode.Mode.TheVariants as Modes

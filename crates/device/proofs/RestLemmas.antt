@@ -25,7 +25,7 @@ use Rattle.direct_device.specs.Device.{IsDirect}
 use Rattle.journal_device.specs.declared.parts.JournalParts.{JournalParts}
 use Rattle.journal_device.specs.Answers as InJournal
 use Rattle.journal_device.specs.Device.{IsJournaled}
-use Rattle.device.specs.Answers.{HasNoBitmap}
+use Rattle.place_model.specs.Awaiting.{HasNoBitmap}
 
 -- ---- the fields that are left
 

@@ -12,7 +12,8 @@ use Rattle.device_model.specs.Mode as Model
 use Rattle.device_model.specs.Progress.{DeviceState}
 use Rattle.device_model.proofs.HistoryLemmas.{Any-append, Any-append_left, Any-append_right, Any-cons, Any-cons_first, Any-cons_later, Any-nil}
 use Rattle.device_parts.specs.Device.{Standing}
-use Rattle.device.specs.Tags.{IsLeftOut, IsOfBlock, KeepsStill, KeepsTagsOf, Leaves}
+use Rattle.device.specs.Tags.{IsLeftOut, Leaves}
+use Rattle.place_model.specs.KeptTags.{IsOfBlock, KeepsStill, KeepsTagsOf}
 use Rattle.device.proofs.WritesLemmas.{WritesOnly-kept, WritesOnly-left, WritesOnly-then}
 
 -- ---- which blocks are left out

@@ -5,7 +5,7 @@ use Rattle.std.proofs.lemmas.Bool.{false≢true}
 use Rattle.image_model.specs.Geometry.{Geometry, layout_of, regions_for, tag_run_of}
 use Rattle.image_model.specs.Superblock.{Superblock}
 use Rattle.recalculate_laws.specs.Position.{moved_fields}
-use Rattle.device.specs.Awaiting.{AwaitsNoMore}
+use Rattle.place_model.specs.Awaiting.{AwaitsNoMore}
 use Rattle.device.proofs.AwaitingLemmas.{no_more_moved}
 
 abbrev small : (flags log2_region recalc_sector : ℕ) → Superblock

@@ -7,7 +7,7 @@ use Rattle.image_model.specs.Geometry.{Geometry}
 use Rattle.device_model.specs.History.{Begun, Change, IsWrittenIn}
 use Rattle.device_model.specs.Mode as Model
 use Rattle.direct_mode.proofs.PlacesLemmas.{IsOfPlaces-wider}
-use Rattle.device.specs.Writes.{IsOfRun, WritesOnly}
+use Rattle.place_model.specs.RunWrites.{IsOfRun, WritesOnly}
 
 in_left : (xs ys : List Change) (block : ℕ) → IsWrittenIn xs block → IsWrittenIn (xs ++ ys) block
 in_left xs ys block is =

@@ -1,8 +1,8 @@
 -- What the calls of a device write in its mode, how long its actors have work, and which tags they leave alone.
-use Rattle.std.specs.Prelude.{◌≡◌, ℕ, ◌<◌, false, List, Option}
-use Rattle.disk_model.specs.Disk.{Content, EachImage, OnlyAdds}
+use Rattle.std.specs.Prelude.{◌≡◌, ℕ, ◌<◌, List, Option}
+use Rattle.disk_model.specs.Disk.{Content, OnlyAdds}
 use Rattle.disk_model.specs.Moments.{EachSince, HasNow}
-use Rattle.image_model.specs.declared.flags.TheConstants.{DIRTY_BITMAP, RECALCULATING}
+use Rattle.image_model.specs.declared.flags.TheConstants.{RECALCULATING}
 use Rattle.image_model.specs.Superblock.{has_flag}
 use Rattle.device_model.specs.Mode as Modes
 use Rattle.device_model.specs.Progress as Model
@@ -31,7 +31,7 @@ use Rattle.bitmap_mode.specs.Closing.{IsOfClose}
 use Rattle.bitmap_mode.specs.States.{States}
 use Rattle.bitmap_device.specs.Answers as InBitmap
 use Rattle.bitmap_device.specs.Device.{KeepsTagsBy, kept as bitmap_kept}
-use Rattle.device.specs.Awaiting.{HasNoMoreIn, fields_of}
+use Rattle.place_model.specs.Awaiting.{HasNoMoreIn, HasNoBitmap}
 use Rattle.device.specs.Device.{IsEmptied, IsInJournalMode}
 use Rattle.device.specs.Telling.{IsDoneIn, IsDueIn}
 use Rattle.device.specs.declared.mode.Mode.TheVariants.{Bitmap, Direct, Journal, Recovery}
@@ -128,10 +128,6 @@ HasNoWork Modes.Bitmap actor = InBitmap.HasNoWork actor
 HasNoWork Modes.Recovery actor = Unit {0}
 
 -- ---- a close
-
--- No image has the flag of a bitmap.
-abbrev pub HasNoBitmap : Content → Type 0
-HasNoBitmap c = EachImage (λ image. has_flag DIRTY_BITMAP (fields_of image).flags ≡ false) c
 
 -- In direct and in journal mode no image has a bitmap, and the position in each is as far as the regions that await let
 -- it, and without one the flag is cleared. In journal mode each image also has in place of each block the cell that the

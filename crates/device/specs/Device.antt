@@ -15,11 +15,11 @@ use Rattle.device_parts.specs.Device.{DeviceMode, Standing}
 use Rattle.direct_device.specs.declared.parts.DirectParts.{DirectParts}
 use Rattle.direct_device.specs.Device as InDirect
 use Rattle.direct_device.specs.Device.{IsDirect, kept as direct_kept}
-use Rattle.device_opening.specs.Emptied.{HasEmptyJournal}
+use Rattle.place_model.specs.EmptyJournal.{HasEmptyJournal}
 use Rattle.journal_device.specs.declared.parts.JournalParts.{JournalParts}
 use Rattle.journal_device.specs.Device as InJournal
 use Rattle.journal_device.specs.Device.{IsJournaled, kept}
-use Rattle.device.specs.Awaiting.{AwaitsNoMore, fields_of}
+use Rattle.place_model.specs.Awaiting.{AwaitsNoMore, fields_of}
 use Rattle.device.specs.declared.mode.DeviceParts.{DeviceParts}
 use Rattle.device.specs.declared.mode.Mode.{Mode}
 use Rattle.recovery_device.specs.Device as InRecovery

@@ -7,7 +7,6 @@ pub use Rattle.journal_device.specs.Commits
 pub use Rattle.journal_device.specs.Device as JournalDeviceDevice
 pub use Rattle.journal_device.specs.Journal
 pub use Rattle.journal_device.specs.Standing
-pub mod Awaiting
 pub mod Answers
 pub mod Calls
 pub mod Device
@@ -15,4 +14,3 @@ pub mod Opening
 pub mod Run
 pub mod Tags
 pub mod Telling
-pub mod Writes

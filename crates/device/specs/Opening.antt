@@ -7,12 +7,11 @@ use Rattle.device_model.specs.Mode as Model
 use Rattle.image_refusal.specs.declared.call_fault.CallFault.{CallFault}
 use Rattle.image_refusal.specs.declared.call_fault.CallFault.TheVariants as Faults
 use Rattle.image_refusal.specs.declared.open_fault.OpenFault.{OpenFault}
-use Rattle.judging_model.specs.Faults.{ImageFault, fault_in, fault_of}
+use Rattle.judging_model.specs.Faults.{ImageFault, fault_in, fault_of, format_fault_of}
 use Rattle.device_parts.specs.Device.{HasOpened}
 use Rattle.device_opening.specs.Changing.{WritesBitmap}
 use Rattle.device_opening.specs.JournalMaking.{WritesDirect, WritesJournal}
 use Rattle.device_opening.specs.Opening.{KeepsRefused, LeavesOpenable}
-use Rattle.device_opening.specs.RecoveryOpening.{format_fault_of}
 use Rattle.device.specs.declared.mode.DeviceParts.{DeviceParts}
 use Rattle.device.specs.Device.{any_mode}
 use Rattle.device.specs.declared.opening.OpenMode.{OpenMode}

@@ -1,12 +1,20 @@
 -- The lines of a script's bytes, within the bound of a script.
 -- Own: a line ends at a newline or at the script's end.
-use Rattle.std.specs.Prelude.{ℕ, ◌==◌, Bool, if◌then◌else◌, ltb, leb, List, [], ◌∷◌, ◌++◌, length, take}
-use Rattle.std.specs.List.{slice_split}
+use Rattle.std.specs.Prelude.{◌≢◌, ℕ, ◌+◌, ◌==◌, Bool, if◌then◌else◌, ltb, leb, List, [], ◌∷◌, ◌++◌, length, take}
+use Rattle.std.specs.List.{All, slice_split}
 use Rattle.device_model.specs.Grammar.{most_line}
 
 -- A script has at most so many bytes.
 abbrev pub most_script : ℕ
 most_script = 16777216
+
+-- Of a script one byte beyond its bound is taken at most.
+abbrev pub most_taken : ℕ
+most_taken = 16777217
+
+-- At most so many bytes are read at a time.
+abbrev pub most_piece : ℕ
+most_piece = 65536
 
 -- What stands between newlines. There is always one such part, which may be empty.
 abbrev pub parts_of : List ℕ → List (List ℕ)
@@ -27,6 +35,15 @@ open_part (part ∷ next ∷ parts) = open_part (next ∷ parts)
 -- The script is longer than it may be.
 abbrev pub is_too_long : List ℕ → Bool
 is_too_long script = ltb most_script (length script)
+
+-- No byte of it is a newline.
+abbrev pub HasNoNewline : List ℕ → Type 0
+HasNoNewline bytes = All (λ byte. byte ≢ 10) bytes
+
+-- How many newlines these bytes have.
+abbrev pub newlines_in : List ℕ → ℕ
+newlines_in [] = 0
+newlines_in (byte ∷ bytes) = (if byte == 10 then 1 else 0) + newlines_in bytes
 
 -- The bytes up to the bound.
 abbrev pub within_bound : List ℕ → List ℕ

@@ -6,8 +6,7 @@ use Rattle.image_model.specs.Cells.{replayed_entries}
 use Rattle.image_model.specs.Geometry.{Geometry, IsGeometry, data_at, initial, sector_at}
 use Rattle.image_model.specs.Section.{Entry}
 use Rattle.place_model.proofs.TagsLemmas.{tag_byte-behind}
-use Rattle.replay.specs.Writes.{IsOfRecovery}
-use Rattle.device_opening.specs.Opening.{IsOfOpening}
+use Rattle.place_model.specs.RecoveryWrites.{IsOfRecovery, IsOfOpening}
 
 -- The data of a block begin behind the journal, whatever block it is.
 data_behind : (g : Geometry) (b : ℕ) → initial g ≤ data_at g b

@@ -29,7 +29,7 @@ use Rattle.recalculate_laws.proofs.FormatsLemmas.{own_format_law, work_opened_la
 use Rattle.recalculation.specs.declared.recalculating.Recalculation.{Recalculation}
 use Rattle.tag_store.specs.Store.{given_tags}
 use Rattle.replay.specs.declared.recovered.Recovered.{Recovered}
-use Rattle.replay.specs.Emptied.{HasEmptyJournal, IsEmptyJournal}
+use Rattle.place_model.specs.EmptyJournal.{HasEmptyJournal, IsEmptyJournal}
 use Rattle.replay.specs.Recovery.{LeavesRecovered}
 use Rattle.request_slots.specs.Flight.{Flight, no_requests}
 use Rattle.device_parts.specs.declared.condition.Condition.TheVariants.{Working}
@@ -40,7 +40,8 @@ use Rattle.direct_device.specs.Device.{IsDirect, IsOverDisk as IsDevice, in_dire
 use Rattle.device_opening.specs.declared.judging.JudgedImage.{JudgedImage}
 use Rattle.device_opening.specs.Judged.{HasJudged, judged_format}
 use Rattle.device_opening.specs.DirectOpening.{HasOpenOn, IsOpenOn, LeavesEmpty, opened_standing}
-use Rattle.device_opening.specs.Opening.{IsLeftOpening, IsOfOpening, IsRecalculationFor, IsUnasked, LeavesImage}
+use Rattle.device_opening.specs.Opening.{IsLeftOpening, IsRecalculationFor, IsUnasked, LeavesImage}
+use Rattle.place_model.specs.RecoveryWrites.{IsOfOpening}
 use Rattle.device_opening.proofs.EmptiedLemmas.{empty_same}
 use Rattle.device_opening.proofs.EmptyingLemmas.{left_empty}
 use Rattle.device_opening.proofs.JudgedLemmas.{format_now, left_by, opens_now, own_format, reads_now}

@@ -13,8 +13,9 @@ use Rattle.place_model.specs.Opened.{next_after_walk, next_by}
 use Rattle.place_model.proofs.JournalLemmas.{journal-before, walk_of-plan}
 use Rattle.place_model.proofs.ReplayLemmas.{same_journal_law}
 use Rattle.place_model.proofs.TagsLemmas.{tag_byte-behind}
-use Rattle.tag_store.specs.Store.{HoldsTag}
-use Rattle.replay.specs.Emptied.{IsEmptyJournal, IsRestingJournal}
+use Rattle.place_model.specs.Tags.{HoldsTag}
+use Rattle.replay.specs.Emptied.{IsRestingJournal}
+use Rattle.place_model.specs.EmptyJournal.{IsEmptyJournal}
 use Rattle.replay.proofs.RestingLemmas.{some_sectors}
 
 module _ (g : Geometry) (sectors : ℕ) (image : Image) (geometry : IsGeometry g sectors) (empty : IsEmptyJournal g image) where

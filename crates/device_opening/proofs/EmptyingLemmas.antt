@@ -22,14 +22,15 @@ use Rattle.journal_model.specs.JournaledDisk.{IsCutOf, JournaledDisk}
 use Rattle.journal_model.specs.Opening.{opened_disk}
 use Rattle.journal_model.specs.Steps.{KeepsCells}
 use Rattle.journal_model.proofs.OpeningLemmas.{base_cells_law, opened_cells_law}
-use Rattle.tag_store.specs.Store.{HoldsTag, Store, given_tags}
+use Rattle.tag_store.specs.Store.{Store, given_tags}
+use Rattle.place_model.specs.Tags.{HoldsTag}
 use Rattle.replay.specs.declared.recovered.Recovered.{Recovered}
-use Rattle.replay.specs.Emptied.{IsEmptyJournal, KeepsResting}
+use Rattle.replay.specs.Emptied.{KeepsResting}
+use Rattle.place_model.specs.EmptyJournal.{IsEmptyJournal, KeepsEmpty}
 use Rattle.replay.specs.Recovery.{IsAtRestOn, LeavesRecovered}
-use Rattle.replay.specs.Writes.{IsOfEmptyJournal, IsOfPlacing, IsOfRecovery}
-use Rattle.device_opening.specs.Opening.{IsOfOpening, WritesRecovery}
+use Rattle.place_model.specs.RecoveryWrites.{IsOfEmptyJournal, IsOfPlacing, IsOfRecovery, IsOfOpening}
+use Rattle.device_opening.specs.Opening.{WritesRecovery}
 use Rattle.device_opening.proofs.MomentsLemmas.{each_from}
-use Rattle.device_opening.specs.DirectOpening.{KeepsEmpty}
 use Rattle.device_opening.proofs.EmptiedLemmas.{empty_next, empty_rests, empty_same, journal_no_tag}
 
 -- ---- what is left

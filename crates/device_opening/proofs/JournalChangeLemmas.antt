@@ -34,15 +34,16 @@ use Rattle.journal_model.specs.JournaledDisk.{JournaledDisk}
 use Rattle.journal_model.specs.Opening.{opened_disk}
 use Rattle.journal_model.specs.Recovery.{IsRecovered}
 use Rattle.mode_change.specs.ToBitmap.{with_zeros}
-use Rattle.mode_change.specs.ToJournal.{IsJournalOf, IsOfJournalChange, KeepsRecalculated, with_any, with_journal, with_rest}
+use Rattle.mode_change.specs.ToJournal.{IsJournalOf, KeepsRecalculated, with_any, with_journal, with_rest}
+use Rattle.change_model.specs.OpeningWrites.{IsOfJournalChange, IsOfJournalMaking, IsOfMadeJournal}
 use Rattle.recalculation.specs.All.{IsOfTagsOnly}
 use Rattle.tag_store.specs.Store.{IsStore, Store, given, given_tags}
 use Rattle.tag_store.specs.StoreLaws.{ReadTagsAlike}
 use Rattle.tag_store.proofs.StoreLawsLemmas.{elsewhere_law}
 use Rattle.tag_store.proofs.StoreLemmas.{tags_in-same}
-use Rattle.replay.specs.Writes.{IsOfRecovery}
+use Rattle.place_model.specs.RecoveryWrites.{IsOfRecovery}
 use Rattle.device_opening.specs.Changing.{KeepsEntryThrough}
-use Rattle.device_opening.specs.JournalMaking.{HasRecalculatedOn, IsMadeOn, IsOfJournalMaking, IsOfMadeJournal, IsOfRecalculation}
+use Rattle.device_opening.specs.JournalMaking.{HasRecalculatedOn, IsMadeOn, IsOfRecalculation}
 use Rattle.device_opening.proofs.ApartLemmas.{same_head}
 use Rattle.device_opening.proofs.MomentsLemmas.{each_from, now_told}
 

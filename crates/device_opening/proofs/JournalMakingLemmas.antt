@@ -14,10 +14,12 @@ use Rattle.change_model.specs.Opened.{KeepsEntry}
 use Rattle.image_format.specs.declared.reading.ImageFormat.{ImageFormat}
 use Rattle.image_format.specs.Format.{disk_format}
 use Rattle.replay.specs.Emptied.{IsRecoveredAlready}
-use Rattle.device_opening.specs.DirectOpening.{KeepsEmpty}
-use Rattle.device_opening.specs.JournalMaking.{IsOfDirectOpening, IsOfJournalOpening, IsOfMadeJournal, KeepsClosed, LeavesMadeJournal, WritesDirect, WritesJournal}
+use Rattle.place_model.specs.EmptyJournal.{KeepsEmpty}
+use Rattle.device_opening.specs.JournalMaking.{KeepsClosed, LeavesMadeJournal, WritesDirect, WritesJournal}
+use Rattle.change_model.specs.OpeningWrites.{IsOfDirectOpening, IsOfJournalOpening, IsOfMadeJournal}
 use Rattle.device_opening.specs.Judged.{HasBitmapFormat, HasJournalFormat}
-use Rattle.device_opening.specs.Opening.{IsOfOpening, KeepsRecovered, LeavesOpenable}
+use Rattle.device_opening.specs.Opening.{KeepsRecovered, LeavesOpenable}
+use Rattle.place_model.specs.RecoveryWrites.{IsOfOpening}
 use Rattle.device_opening.proofs.MomentsLemmas.{EachMoment-both, each_from, since_from}
 
 -- What an opening in a mode writes, by the format of the image at the start.

@@ -37,7 +37,8 @@ use Rattle.device_opening.specs.declared.judging.JudgedImage.{JudgedImage}
 use Rattle.device_opening.specs.declared.recovering.RecoveredImage.{RecoveredImage}
 use Rattle.device_opening.specs.declared.room.DeviceRoom.{DeviceRoom}
 use Rattle.device_opening.specs.Judged.{HasJudged, judged_format, rule_of}
-use Rattle.device_opening.specs.Opening.{IsLeftOpening, IsOfImage, IsOfOpening, IsRecalculationFor, IsRoomFor, IsUnasked, LeavesImage}
+use Rattle.device_opening.specs.Opening.{IsLeftOpening, IsOfImage, IsRecalculationFor, IsRoomFor, IsUnasked, LeavesImage}
+use Rattle.place_model.specs.RecoveryWrites.{IsOfOpening}
 use Rattle.device_opening.proofs.MomentsLemmas.{since_from}
 
 -- What is known of the disk behind a read is known of it before.

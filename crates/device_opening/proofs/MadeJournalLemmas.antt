@@ -43,7 +43,7 @@ use Rattle.recalculation.proofs.LawsLemmas.{opened_position_law}
 use Rattle.journal_mode.specs.Journal.{PlacedRing, empty_journal}
 use Rattle.journal_mode.specs.Standing.{JournalStanding, StandsAs}
 use Rattle.tag_store.specs.Store.{given_tags}
-use Rattle.replay.specs.Emptied.{HasEmptyJournal, IsEmptyJournal}
+use Rattle.place_model.specs.EmptyJournal.{HasEmptyJournal, IsEmptyJournal}
 use Rattle.request_slots.specs.Flight.{Flight, no_requests}
 use Rattle.device_parts.specs.declared.condition.Condition.TheVariants.{Working}
 use Rattle.device_parts.specs.declared.parts.Parts.{Parts}

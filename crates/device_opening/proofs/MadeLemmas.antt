@@ -27,10 +27,11 @@ use Rattle.image_format.specs.declared.reading.ImageFormat.{ImageFormat}
 use Rattle.image_format.specs.Format.{disk_format}
 use Rattle.mode_change.specs.ToBitmap.{IsOfBitmap, KeepsEmptied}
 use Rattle.recalculation.specs.All.{IsOfTagsOnly}
-use Rattle.replay.specs.Writes.{IsOfRecovery}
+use Rattle.place_model.specs.RecoveryWrites.{IsOfRecovery, IsOfOpening}
 use Rattle.device_opening.specs.declared.recovering.RecoveredImage.{RecoveredImage}
-use Rattle.device_opening.specs.Changing.{HasEmptiedOn, IsOfMade, IsOfMaking, KeepsEntryThrough}
-use Rattle.device_opening.specs.Opening.{IsOfOpening, KeepsImage, WritesRecovery}
+use Rattle.device_opening.specs.Changing.{HasEmptiedOn, KeepsEntryThrough}
+use Rattle.change_model.specs.OpeningWrites.{IsOfMade, IsOfMaking}
+use Rattle.device_opening.specs.Opening.{KeepsImage, WritesRecovery}
 use Rattle.device_opening.proofs.ApartLemmas.{same_head}
 use Rattle.device_opening.proofs.EmptyingLemmas.{newest_adds}
 use Rattle.device_opening.proofs.MomentsLemmas.{each_from, now_told}

@@ -20,7 +20,7 @@ use Rattle.place_model.proofs.KindLemmas.{opened_format-changed}
 use Rattle.hmac_tag.specs.TagMaker.{TagRule}
 use Rattle.mode_change.specs.ToJournal.{journal_format}
 use Rattle.mode_change.proofs.FormatLemmas.{direct_format, unmarked_format}
-use Rattle.replay.specs.Emptied.{HasEmptyJournal}
+use Rattle.place_model.specs.EmptyJournal.{HasEmptyJournal}
 use Rattle.journal_mode.specs.Journal.{PlacedRing, empty_journal}
 use Rattle.request_slots.specs.Flight.{Flight, no_requests}
 use Rattle.device_parts.specs.declared.condition.Condition.TheVariants.{Working}
@@ -35,7 +35,8 @@ use Rattle.device_opening.specs.declared.recovering.RecoveredImage.{RecoveredIma
 use Rattle.device_opening.specs.declared.room.RecoveryRoom.{RecoveryRoom}
 use Rattle.device_opening.specs.BitmapOpening.{HasJudgedBitmap}
 use Rattle.device_opening.specs.DirectOpening.{LeavesEmpty}
-use Rattle.device_opening.specs.JournalMaking.{HasMadeJournal, IsMadeOf, IsOfMadeJournal, bitmap_judged}
+use Rattle.device_opening.specs.JournalMaking.{HasMadeJournal, IsMadeOf, bitmap_judged}
+use Rattle.change_model.specs.OpeningWrites.{IsOfMadeJournal}
 use Rattle.device_opening.specs.Opening.{IsRecoveryRoomFor}
 use Rattle.device_opening.proofs.JudgedLemmas.{parts_of}
 use Rattle.device_opening.proofs.MadeJournalLemmas.{direct_made, journaled_made, made_empty}

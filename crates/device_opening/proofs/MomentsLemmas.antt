@@ -11,7 +11,7 @@ use Rattle.std.proofs.lemmas.List.{append_cancel_right}
 use Rattle.image_model.specs.Cells.{replayed_entries}
 use Rattle.image_model.specs.Geometry.{Geometry}
 use Rattle.journal_mode.specs.Emptied.{KeepsResting}
-use Rattle.journal_mode.specs.Writes.{IsOfPlacing}
+use Rattle.place_model.specs.RecoveryWrites.{IsOfPlacing}
 
 -- Two facts of each moment are one.
 all_both : (P Q : Content → Type 0) (xs : List Content) → AllByRecursion P xs → AllByRecursion Q xs

@@ -13,7 +13,8 @@ use Rattle.place_model.specs.Kind.{kind_in}
 use Rattle.change_model.specs.Opened.{KeepsEntry}
 use Rattle.image_format.specs.declared.reading.ImageFormat.{ImageFormat}
 use Rattle.image_format.specs.Format.{disk_format}
-use Rattle.device_opening.specs.Changing.{IsOfBitmapOpening, IsOfMade, LeavesMade, WritesBitmap}
+use Rattle.device_opening.specs.Changing.{LeavesMade, WritesBitmap}
+use Rattle.change_model.specs.OpeningWrites.{IsOfBitmapOpening, IsOfMade}
 use Rattle.device_parts.specs.Device.{CanOpenRead}
 use Rattle.image_model.specs.Openable.{IsOpenable}
 use Rattle.device_opening.specs.declared.judging.JudgedImage.{JudgedImage}

@@ -1,22 +1,16 @@
 -- What an opening in bitmap mode does with an image that has a journal: that is recovered and emptied, and becomes a
 -- bitmap of which no bit is set.
-use Rattle.std.specs.Prelude.{◌≡◌, ◌⊎◌, ℕ, true, false, Option, List}
-use Rattle.disk_model.specs.Disk.{Content, EachImage, Image, OnlyAdds, last_image, newest_only}
+use Rattle.std.specs.Prelude.{◌≡◌, ℕ, Option, List}
+use Rattle.disk_model.specs.Disk.{Content, EachImage, Image, last_image}
 use Rattle.buffer_cache.specs.Cached.{HasNoMark}
 use Rattle.disk_model.specs.Identity.{DiskIdentity}
 use Rattle.disk_model.specs.Moments.{EachMoment, EachSince, HasNow}
-use Rattle.image_model.specs.declared.flags.TheConstants.{DIRTY_BITMAP}
-use Rattle.image_model.specs.Cells.{replayed_entries}
-use Rattle.image_model.specs.Geometry.{Geometry, bitmap_sectors}
-use Rattle.image_model.specs.Superblock.{Superblock, has_flag}
-use Rattle.place_model.specs.Changed.{bitmap_fields}
+use Rattle.image_model.specs.Geometry.{Geometry}
 use Rattle.place_model.specs.Format.{DiskFormat, format_on}
 use Rattle.journal_model.specs.JournaledDisk.{JournaledDisk}
-use Rattle.change_model.specs.Change.{IsOfHead, IsOfZeros}
-use Rattle.change_model.specs.Fields.{with_head}
 use Rattle.change_model.specs.Opened.{IsEmptiedOf, KeepsEntry}
+use Rattle.change_model.specs.OpeningWrites.{IsOfBitmapOpening, IsOfMade}
 use Rattle.tag_store.specs.Store.{given_tags}
-use Rattle.replay.specs.Writes.{IsOfRecovery}
 use Rattle.bitmap_device.specs.declared.parts.BitmapParts.{BitmapParts}
 use Rattle.bitmap_device.specs.Device.{IsBitmapped}
 use Rattle.bitmap_mode.specs.Standing.{AreOpened, HasNoBits}
@@ -30,25 +24,7 @@ use Rattle.device_opening.specs.Opening.{IsOfImage}
 
 -- ---- what is written
 
--- The bytes may be written to the sector: what a recovery writes, zeros where the bitmap will be, or sector 0 as it was
--- with the fields of one with a bitmap.
-abbrev pub IsOfMaking : Superblock → Geometry → (start : Content) → (sector : ℕ) → List ℕ → Type 0
-IsOfMaking s g start sector x =
-    IsOfRecovery g (replayed_entries g (last_image start)) sector x
-    ⊎ (IsOfZeros g (bitmap_sectors (record g { log2_region = (bitmap_fields s).log2_region })) sector x
-    ⊎ IsOfHead (with_head (bitmap_fields s) (last_image start 0)) sector x)
-
--- The content comes by the making of a bitmap: what was pending is settled, and then nothing else is written.
-abbrev pub IsOfMade : Superblock → Geometry → (start c : Content) → Type 0
-IsOfMade s g start c = OnlyAdds (IsOfMaking s g start) (newest_only start) c
-
--- It comes by an opening in bitmap mode of an image with these fields: where that has a bitmap nothing is written, and
--- else one is made.
-pub record IsOfBitmapOpening (s : Superblock) (g : Geometry) (start c : Content) : Type 0 where
-  pub found : has_flag DIRTY_BITMAP s.flags ≡ true → c ≡ newest_only start
-  pub made : has_flag DIRTY_BITMAP s.flags ≡ false → IsOfMade s g start c
-
--- Each content since the start does, by the format of the image that reads gave.
+-- Each content since the start comes by an opening in bitmap mode, by the format of the image that reads gave.
 abbrev pub WritesBitmap : Option (List ℕ) → (sectors : ℕ) → (before after : List Content) → Type 0
 WritesBitmap key sectors before after = EachSince (λ start. let d = format_on key sectors (last_image start) in
     IsOfBitmapOpening d.superblock d.geometry start) before after

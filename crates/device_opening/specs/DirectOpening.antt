@@ -2,17 +2,16 @@
 -- is.
 -- Own: the journal is recovered and then emptied, so that each block is what stands in its place.
 use Rattle.std.specs.Prelude.{◌≡◌, ℕ, false, Option, List}
-use Rattle.disk_model.specs.Disk.{Content, EachImage, HasNothingPending, Image, OnlyAdds, last_image, newest_only}
+use Rattle.disk_model.specs.Disk.{Content, EachImage, HasNothingPending, Image, last_image}
 use Rattle.disk_model.specs.Moments.{HasNow}
-use Rattle.image_model.specs.Geometry.{Geometry}
 use Rattle.device_model.specs.Mode.{Direct}
 use Rattle.place_model.specs.Changed.{opened_format}
 use Rattle.place_model.specs.Format.{DiskFormat, format_on}
 use Rattle.place_model.specs.Opened.{device_format, opened_on}
 use Rattle.direct_model.specs.DirectDisk.{DirectDisk}
 use Rattle.journal_model.specs.Opening as Journaled
-use Rattle.tag_store.specs.Store.{HoldsTag, given_tags}
-use Rattle.replay.specs.Emptied.{HasEmptyJournal, IsEmptyJournal}
+use Rattle.tag_store.specs.Store.{given_tags}
+use Rattle.place_model.specs.EmptyJournal.{HasEmptyJournal}
 use Rattle.replay.specs.Recovery.{LeavesRecovered}
 use Rattle.device_parts.specs.declared.condition.Condition.TheVariants.{Working}
 use Rattle.direct_device.specs.declared.parts.DirectParts.{DirectParts}
@@ -26,11 +25,6 @@ pub record HasEmptied (f : DiskFormat) (before after : List Content) (image : Re
   pub left : HasNow (λ start. HasNow (λ c. LeavesRecovered (Journaled.opened_disk f (last_image start)) image.at
       (given_tags image.tags c) c) after) before
   pub unused : image.at.used ≡ false
-
--- Where the journal of the image at the start is empty, nothing is written from there on but sectors of tags.
-abbrev pub KeepsEmpty : Geometry → (start c : Content) → Type 0
-KeepsEmpty g start c = IsEmptyJournal g (last_image start)
-    → OnlyAdds (λ sector x. HoldsTag g sector) (newest_only start) c
 
 -- ---- what is open
 

@@ -1,12 +1,12 @@
 -- What an opening in journal mode or in direct mode does with an image that has a bitmap: each region whose bit is set
 -- is recalculated, and the bitmap becomes a journal that is empty.
-use Rattle.std.specs.Prelude.{◌≡◌, ◌⊎◌, ℕ, ◌<◌, true, false, Option, List}
+use Rattle.std.specs.Prelude.{◌≡◌, ℕ, ◌<◌, false, Option, List}
 use Rattle.disk_model.specs.Disk.{Content, Image, OnlyAdds, last_image, newest_only}
 use Rattle.disk_model.specs.Identity.{DiskIdentity}
 use Rattle.disk_model.specs.Moments.{EachSince, HasNow}
 use Rattle.image_model.specs.declared.flags.TheConstants.{DIRTY_BITMAP}
 use Rattle.image_model.specs.Geometry.{Geometry, regions}
-use Rattle.image_model.specs.Superblock.{Superblock, has_flag}
+use Rattle.image_model.specs.Superblock.{has_flag}
 use Rattle.device_model.specs.Mode.{Journal}
 use Rattle.place_model.specs.Changed.{journal_format}
 use Rattle.place_model.specs.Format.{DiskFormat, HasCells, cells_on, format_on}
@@ -18,47 +18,24 @@ use Rattle.image_format.specs.declared.reading.ImageFormat.{ImageFormat}
 use Rattle.image_format.specs.Format.{disk_format}
 use Rattle.bitmap_mode.specs.States.{States}
 use Rattle.journal_model.specs.Opening.{opened_disk}
-use Rattle.mode_change.specs.ToJournal.{IsOfJournalChange}
+use Rattle.change_model.specs.OpeningWrites.{IsOfDirectOpening, IsOfJournalOpening, IsOfMadeJournal}
 use Rattle.recalculation.specs.All.{IsOfTagsOnly}
-use Rattle.tag_store.specs.Store.{HoldsTag, IsStore, Store, given_tags}
+use Rattle.tag_store.specs.Store.{IsStore, Store, given_tags}
 use Rattle.replay.specs.Recovery.{LeavesRecovered}
 use Rattle.device_opening.specs.declared.bitmap_judging.JudgedBitmap.{JudgedBitmap}
 use Rattle.device_opening.specs.declared.recovering.RecoveredImage.{RecoveredImage}
 use Rattle.device_opening.specs.Changing.{KeepsEntryThrough}
-use Rattle.device_opening.specs.DirectOpening.{KeepsEmpty}
-use Rattle.device_opening.specs.Opening.{IsOfOpening, OnlySyncs}
+use Rattle.device_opening.specs.Opening.{OnlySyncs}
 use Rattle.replay.specs.Emptied.{IsRecoveredAlready}
 
 -- ---- what is written
-
--- The bytes may be written to the sector: it is one of tags; or they are what the change from a bitmap to a journal
--- writes, of an image with these fields and places.
-abbrev pub IsOfJournalMaking : Superblock → Geometry → (start : Content) → (sector : ℕ) → List ℕ → Type 0
-IsOfJournalMaking s g start sector x =
-    HoldsTag g sector ⊎ IsOfJournalChange (record { fields = s; geometry = g }) start sector x
 
 -- The content comes by the recalculation of regions: what was pending is settled, and then nothing is written but
 -- sectors of tags.
 abbrev pub IsOfRecalculation : Geometry → (start c : Content) → Type 0
 IsOfRecalculation g start c = OnlyAdds (IsOfTagsOnly g) (newest_only start) c
 
--- The content comes by the making of a journal: what was pending is settled, and then nothing else is written.
-abbrev pub IsOfMadeJournal : Superblock → Geometry → (start c : Content) → Type 0
-IsOfMadeJournal s g start c = OnlyAdds (IsOfJournalMaking s g start) (newest_only start) c
-
--- It comes by an opening in journal mode of an image with these fields: that is recovered where it has a journal, and
--- else one is made.
-pub record IsOfJournalOpening (s : Superblock) (g : Geometry) (start c : Content) : Type 0 where
-  pub found : has_flag DIRTY_BITMAP s.flags ≡ false → IsOfOpening g start c
-  pub made : has_flag DIRTY_BITMAP s.flags ≡ true → IsOfMadeJournal s g start c
-
--- It comes by one in direct mode: so it does, and where the image has a journal that is empty, nothing is written but
--- sectors of tags.
-pub record IsOfDirectOpening (s : Superblock) (g : Geometry) (start c : Content) : Type 0 where
-  pub opening : IsOfJournalOpening s g start c
-  pub keeps : has_flag DIRTY_BITMAP s.flags ≡ false → KeepsEmpty g start c
-
--- Each content since the start comes by one in journal mode, by the format of the image that reads gave,
+-- Each content since the start comes by an opening in journal mode, by the format of the image that reads gave,
 abbrev pub WritesJournal : Option (List ℕ) → (sectors : ℕ) → (before after : List Content) → Type 0
 WritesJournal key sectors before after = EachSince (λ start. let d = format_on key sectors (last_image start) in
     IsOfJournalOpening d.superblock d.geometry start) before after

@@ -10,4 +10,3 @@ pub mod DirectOpening
 pub mod BitmapOpening
 pub mod Changing
 pub mod JournalMaking
-pub mod RecoveryOpening

@@ -1,9 +1,8 @@
 -- What an opening does in any mode: the memory that it takes, why it refuses a disk, and what it leaves at each moment.
 use Rattle.std.specs.Prelude.{◌≡◌, ◌≢◌, ℕ, ◌*◌, Option, Some, None, List, Result, Err, IsErr, length}
-use Rattle.disk_model.specs.Disk.{Content, EachImage, Image, OnlyAdds, last_image, newest_only}
+use Rattle.disk_model.specs.Disk.{Content, EachImage, Image, last_image, newest_only}
 use Rattle.disk_model.specs.Identity.{DiskIdentity}
 use Rattle.disk_model.specs.Moments.{EachMoment, EachSince, HasNow}
-use Rattle.image_model.specs.Cells.{replayed_entries}
 use Rattle.image_model.specs.Geometry.{Geometry, journal_sectors}
 use Rattle.image_model.specs.Superblock.{Superblock}
 use Rattle.device_model.specs.Mode.{Journal, Mode}
@@ -24,7 +23,7 @@ use Rattle.recalculation.specs.Position.{CanBeWritten}
 use Rattle.tag_store.specs.Store.{IsStore, given_tags}
 use Rattle.replay.specs.Emptied.{IsRecoveredAlready, KeepsResting}
 use Rattle.replay.specs.Recovery.{LeavesRecovered}
-use Rattle.replay.specs.Writes.{IsOfRecovery}
+use Rattle.place_model.specs.RecoveryWrites.{IsOfOpening}
 pub use Rattle.replay.specs.Writes.{OnlySyncs}
 use Rattle.request_slots.specs.Flight.{no_requests}
 use Rattle.device_parts.specs.declared.parts.Parts.{Parts}
@@ -85,13 +84,7 @@ abbrev pub KeepsImage : DiskFormat → (before after : List Content) → Type 0
 KeepsImage f before after = HasNow (λ start. OpensAs f (last_image start)
     → EachMoment before after (EachImage (HasCells f (cells_on f (last_image start))))) before
 
--- The content comes by an opening: what was pending is settled, and then nothing is written but entries of the image's
--- journal in their places, sectors of tags, and empty sections.
-abbrev pub IsOfOpening : Geometry → (start c : Content) → Type 0
-IsOfOpening g start c =
-    OnlyAdds (IsOfRecovery g (replayed_entries g (last_image start))) (newest_only start) c
-
--- Each content since the start is one of these.
+-- Each content since the start comes by an opening.
 abbrev pub WritesRecovery : Geometry → (before after : List Content) → Type 0
 WritesRecovery g before after = EachSince (IsOfOpening g) before after
 

@@ -18,7 +18,8 @@ ghost use Rattle.request_slots.specs.Flight.{no_requests};
 ghost use Rattle.device_opening.specs.Changing.{HasEmptiedOn, HasMade, HasNoRegions, IsWrittenBack, LeavesMade};
 ghost use Rattle.device_opening.specs.Changing.{MakesOfSameBlocks, WritesBitmap};
 ghost use Rattle.device_opening.specs.Judged.{HasJournalFormat, HasJudged, judged_format};
-ghost use Rattle.device_opening.specs.Opening.{IsOfOpening, IsRecalculationFor, IsRecoveryRoomFor};
+ghost use Rattle.device_opening.specs.Opening.{IsRecalculationFor, IsRecoveryRoomFor};
+ghost use Rattle.place_model.specs.RecoveryWrites.{IsOfOpening};
 ghost use Rattle.device_opening.specs.Opening.{LeavesImage, LeavesOpenable, Refuses};
 
 use crate::emptying::recover_emptied;

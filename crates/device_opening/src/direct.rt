@@ -13,10 +13,13 @@ ghost use Rattle.mode_change.specs.ToJournal.{journal_format};
 ghost use Rattle.device_parts.specs.Device.{HasOpened};
 ghost use Rattle.direct_device.specs.Device.{in_direct};
 ghost use Rattle.device_opening.specs.BitmapOpening.{HasJudgedBitmap};
-ghost use Rattle.device_opening.specs.DirectOpening.{HasOpenOn, KeepsEmpty, LeavesEmpty};
-ghost use Rattle.device_opening.specs.JournalMaking.{IsOfMadeJournal, LeavesMadeJournal, WritesDirect, bitmap_judged};
+ghost use Rattle.device_opening.specs.DirectOpening.{HasOpenOn, LeavesEmpty};
+ghost use Rattle.place_model.specs.EmptyJournal.{KeepsEmpty};
+ghost use Rattle.device_opening.specs.JournalMaking.{LeavesMadeJournal, WritesDirect, bitmap_judged};
+ghost use Rattle.change_model.specs.OpeningWrites.{IsOfMadeJournal};
 ghost use Rattle.device_opening.specs.Judged.{HasBitmapFormat, HasJournalFormat, HasJudged, judged_format};
-ghost use Rattle.device_opening.specs.Opening.{IsOfOpening, IsRecoveryRoomFor, IsUnasked, LeavesImage};
+ghost use Rattle.device_opening.specs.Opening.{IsRecoveryRoomFor, IsUnasked, LeavesImage};
+ghost use Rattle.place_model.specs.RecoveryWrites.{IsOfOpening};
 ghost use Rattle.device_opening.specs.Opening.{LeavesOpenable, Refuses};
 
 use crate::bitmap_judging::{JudgedBitmap, judge_bitmap};

@@ -6,7 +6,8 @@ ghost use Rattle.disk_model.specs.Moments.{EachSince};
 ghost use Rattle.image_model.specs.Geometry.{journal_sectors};
 ghost use Rattle.buffer_cache.specs.Cache.{sectors_of};
 ghost use Rattle.buffer_cache.specs.HeldSectors.{no_sectors};
-ghost use Rattle.device_opening.specs.DirectOpening.{HasEmptied, KeepsEmpty};
+ghost use Rattle.device_opening.specs.DirectOpening.{HasEmptied};
+ghost use Rattle.place_model.specs.EmptyJournal.{KeepsEmpty};
 ghost use Rattle.device_opening.specs.Judged.{HasJudged, judged_format};
 ghost use Rattle.device_opening.specs.Opening.{IsOfImage, LeavesImage};
 

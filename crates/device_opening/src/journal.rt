@@ -13,11 +13,13 @@ ghost use Rattle.mode_change.specs.ToJournal.{journal_format};
 ghost use Rattle.device_parts.specs.Device.{HasOpened};
 ghost use Rattle.journal_device.specs.Device.{in_journal};
 ghost use Rattle.device_opening.specs.BitmapOpening.{HasJudgedBitmap};
-ghost use Rattle.device_opening.specs.JournalMaking.{IsOfMadeJournal, KeepsClosed, LeavesMadeJournal, WritesJournal};
+ghost use Rattle.device_opening.specs.JournalMaking.{KeepsClosed, LeavesMadeJournal, WritesJournal};
+ghost use Rattle.change_model.specs.OpeningWrites.{IsOfMadeJournal};
 ghost use Rattle.device_opening.specs.JournalMaking.{bitmap_judged};
 ghost use Rattle.device_opening.specs.JournalOpening.{HasEmptyRing, HasOpenOn};
 ghost use Rattle.device_opening.specs.Judged.{HasBitmapFormat, HasJournalFormat, HasJudged, judged_format};
-ghost use Rattle.device_opening.specs.Opening.{IsOfOpening, IsRecoveryRoomFor, IsUnasked, KeepsRecovered, LeavesImage};
+ghost use Rattle.device_opening.specs.Opening.{IsRecoveryRoomFor, IsUnasked, KeepsRecovered, LeavesImage};
+ghost use Rattle.place_model.specs.RecoveryWrites.{IsOfOpening};
 ghost use Rattle.device_opening.specs.Opening.{LeavesOpenable, Refuses};
 
 use crate::bitmap_judging::{JudgedBitmap, judge_bitmap};

@@ -7,7 +7,7 @@ ghost use Rattle.image_refusal.specs.Calls.{HasCallCause};
 ghost use Rattle.device_parts.specs.Device.{HasOpened};
 ghost use Rattle.recovery_device.specs.Device.{in_recovery};
 ghost use Rattle.device_opening.specs.Opening.{Refuses};
-ghost use Rattle.device_opening.specs.RecoveryOpening.{format_fault_of};
+ghost use Rattle.judging_model.specs.Faults.{format_fault_of};
 
 use crate::judging::maker_of;
 use crate::room::DeviceRoom;

@@ -21,7 +21,8 @@ use Rattle.recalculation.specs.Awaiting.{awaiting_of}
 use Rattle.recalculation.specs.Position.{MayMove, MovesIn, is_same_position}
 use Rattle.recalculation.specs.Recalculation.{HasFieldsThrough, IsOfTagsOrHead, Moving, SettlesPositionIn, Settling, StepsPositionIn, fields_behind, fields_left, fields_next, fields_or, next_of, to_write}
 use Rattle.recalculation.proofs.KeptLemmas.{moved_if_some}
-use Rattle.tag_store.specs.Store.{HoldsTag, given_tags}
+use Rattle.tag_store.specs.Store.{given_tags}
+use Rattle.place_model.specs.Tags.{HoldsTag}
 use Rattle.device_parts.specs.declared.condition.Condition.TheVariants.{Working}
 use Rattle.device_parts.specs.declared.parts.Parts.{Parts}
 use Rattle.device_parts.specs.Device.{Standing}

@@ -5,17 +5,17 @@ use Rattle.disk_model.specs.Disk.{Content, OnlyAdds}
 use Rattle.disk_model.specs.Moments.{EachSince}
 use Rattle.disk_model.proofs.DiskLemmas.{OnlyAdds-wider}
 use Rattle.disk_model.proofs.MomentsLemmas.{EachMoment-weaker, FromStart-weaker, adds_wider}
-use Rattle.place_model.specs.Tags.{IsOfTags}
+use Rattle.place_model.specs.Tags.{IsOfTags, HoldsTag}
 use Rattle.image_model.specs.Geometry.{Geometry, region_of, regions}
 use Rattle.image_model.proofs.Regions.{region_of-lt}
 use Rattle.device_model.specs.Regions.{with_region}
 use Rattle.direct_model.specs.DirectDisk.{DirectDisk}
 use Rattle.direct_mode.specs.CallLaws.{AddsTags, StandsThrough}
-use Rattle.direct_mode.specs.Places.{IsOfPlaces, WritesPlaces}
+use Rattle.place_model.specs.Places.{IsOfPlaces, WritesPlaces}
 use Rattle.direct_mode.proofs.CallLemmas.{still_law}
 use Rattle.direct_mode.specs.Cells.{HasCells}
 use Rattle.hmac_tag.specs.TagMaker.{TagRule}
-use Rattle.tag_store.specs.Store.{HoldsTag, Store, given_tags}
+use Rattle.tag_store.specs.Store.{Store, given_tags}
 use Rattle.recalculate_laws.proofs.TakingLemmas.{direct_taken_law, direct_taking_law}
 use Rattle.recalculation.specs.declared.recalculating.Recalculation.{Recalculation}
 use Rattle.recalculation.specs.Awaiting.{awaiting_of}

@@ -5,7 +5,7 @@ use Rattle.disk_model.specs.Moments.{EachSince}
 use Rattle.image_model.specs.Geometry.{Geometry}
 use Rattle.image_model.specs.Superblock.{Superblock}
 use Rattle.device_model.specs.Progress as Model
-use Rattle.direct_mode.specs.Places.{WritesPlaces}
+use Rattle.place_model.specs.Places.{WritesPlaces}
 use Rattle.request_slots.specs.declared.turn.Turn.TheVariants as Turns
 use Rattle.request_slots.specs.Flight.{Flight, turn_of}
 use Rattle.device_model.specs.declared.actor.Actor.{Actor}
@@ -18,7 +18,7 @@ use Rattle.device_parts.specs.Answers.{ServesNext, StepsNext}
 use Rattle.device_parts.specs.Device.{Standing}
 use Rattle.recalculation.specs.declared.recalculating.Recalculation.{Recalculation}
 use Rattle.recalculation.specs.Recalculation.{HasFields, HasFieldsThrough, IsOfTagsOrHead, WritesRegion, count_of, fields_left, next_of}
-use Rattle.tag_store.specs.Store.{HoldsTag}
+use Rattle.place_model.specs.Tags.{HoldsTag}
 use Rattle.direct_device.specs.declared.parts.DirectParts.{DirectParts}
 use Rattle.direct_device.specs.Device.{IsDirect, in_direct}
 

@@ -3,7 +3,8 @@ ghost use Rattle.std.specs.Prelude.{◌≡◌, ◌<◌, OnOk};
 ghost use Rattle.disk_model.specs.Causes.{HasCause};
 ghost use Rattle.disk_model.specs.Disk.{OnlyAdds};
 ghost use Rattle.disk_model.specs.Moments.{EachSince};
-ghost use Rattle.tag_store.specs.Store.{HoldsTag, IsStore};
+ghost use Rattle.tag_store.specs.Store.{IsStore};
+ghost use Rattle.place_model.specs.Tags.{HoldsTag};
 ghost use Rattle.direct_device.specs.Taking.{StandsTaking, TakesEach};
 
 use hmac_tag::TagMaker;

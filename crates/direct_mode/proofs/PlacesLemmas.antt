@@ -8,7 +8,7 @@ use Rattle.image_model.proofs.GeometryLemmas.{data_at-inside}
 use Rattle.place_model.proofs.TagsLemmas.{tag_byte-behind}
 use Rattle.tag_store.specs.Store.{IsMarkedTags, IsOutForTag, Store}
 use Rattle.direct_mode.specs.Cells.{IsBlock, IsOfBlockOrTags}
-use Rattle.direct_mode.specs.Places.{IsOfPlaces, WritesPlaces}
+use Rattle.place_model.specs.Places.{IsOfPlaces, WritesPlaces}
 
 -- ---- one call
 

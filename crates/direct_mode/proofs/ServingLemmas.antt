@@ -13,7 +13,8 @@ use Rattle.direct_laws.specs.CallLaws.{KeepsNow, StandsThrough}
 use Rattle.direct_laws.specs.EventLaws.{after_block}
 use Rattle.direct_laws.specs.ServeLaws.{KeepsDevice}
 use Rattle.direct_laws.proofs.ServeLemmas.{failed_block_law, served_block_law}
-use Rattle.tag_store.specs.Store.{HoldsTag, IsMarkedTags, IsOfPut, IsStore, Store, given_tags}
+use Rattle.tag_store.specs.Store.{IsMarkedTags, IsOfPut, IsStore, Store, given_tags}
+use Rattle.place_model.specs.Tags.{HoldsTag}
 use Rattle.tag_store.proofs.SpansLemmas.{first_in_span}
 use Rattle.tag_store.proofs.StoreLemmas.{HoldsTag-span, tag-span}
 use Rattle.direct_mode.specs.Cells.{HasCells, IsOfBlock, IsOfBlockOrTags, block_write}

@@ -5,7 +5,8 @@ use Rattle.image_model.specs.Geometry.{Geometry, data_at}
 use Rattle.device_model.specs.History.{BlockWrite}
 use Rattle.direct_model.specs.DirectDisk.{DirectDisk}
 use Rattle.direct_laws.specs.CallLaws.{KeepsNow, StandsThrough}
-use Rattle.tag_store.specs.Store.{HoldsTag, IsOfPut, Store, given_tags}
+use Rattle.tag_store.specs.Store.{IsOfPut, Store, given_tags}
+use Rattle.place_model.specs.Tags.{HoldsTag}
 
 -- The store has the disk's places, and with the tags that it gives the disk has its cells now.
 pub record HasCells (d : DirectDisk) (awaiting : ℕ → Bool) (store : Store) (moments : List Content)

@@ -5,7 +5,6 @@ pub use Rattle.direct_laws.specs.EventLaws
 pub use Rattle.direct_laws.specs.MomentLaws
 pub use Rattle.direct_laws.specs.ServeLaws
 pub mod Cells
-pub mod Places
 pub mod Serving
 pub mod Calls
 pub mod Settling

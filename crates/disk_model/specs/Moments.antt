@@ -32,6 +32,11 @@ FromStart before P later = IsSomeAnd (content_now before) (λ start. P start lat
 abbrev pub EachSince : (Content → Content → Type 0) → List Content → List Content → Type 0
 EachSince P before after = EachMoment before after (FromStart before P)
 
+-- Nothing is written, and the disk is not synced: no moment is added. So it is of a run in recovery mode and of a salvage, over
+-- every image, also one that is refused.
+abbrev pub KeepsMoments : (before after : List Content) → Type 0
+KeepsMoments before after = after ≡ before
+
 -- The content after so many turns of a loop, of which turn k does `step k`, counted from 0.
 abbrev pub after_turns : (ℕ → Content → Content) → ℕ → Content → Content
 after_turns step zero content = content

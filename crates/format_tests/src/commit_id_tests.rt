@@ -174,7 +174,8 @@ fn journals_of_the_kernel_are_walked(rt: HostRuntime) -> Result<(), Fail> {
 
 #[test]
 fn zero_sectors_are_blank_among_those_of_a_bitmap(rt: HostRuntime) -> Result<(), Fail> {
-    // The runs, how many sectors a bitmap would take, whether an entry is used outside, and the number where all is blank.
+    // The runs, how many sectors a bitmap would take, whether an entry is used outside, and the number where all is
+    // blank.
     let rows: [(&[Run], u64, bool, Option<u8>); 7] = [
         // A change to a bitmap of 8 sectors, cut after three of them.
         (&[(3, ZERO), (85, N3)], 8, false, Some(3)),

@@ -7,7 +7,7 @@ use Rattle.image_format.specs.declared.reading.ImageFormat.{ImageFormat}
 use Rattle.image_format.specs.Format.{IsFormat}
 use Rattle.image_model.specs.Geometry.{Geometry, IsGeometry, initial, journal_sectors}
 use Rattle.image_model.proofs.GeometryLemmas.{data_at-inside, section_at-lt}
-use Rattle.journal_section.specs.Entries.{IsWithin}
+use Rattle.image_model.specs.Entries.{IsWithin}
 use Rattle.place_model.proofs.TagsLemmas.{tag_byte-behind}
 use Rattle.image_model.specs.declared.new_image.Wipe.{Wipe}
 use Rattle.image_model.specs.declared.new_image.Wipe.TheVariants.{Wiped, Kept, Recalculated}

@@ -17,7 +17,7 @@ use Rattle.image_model.proofs.GeometryOf.{geometry_given}
 use Rattle.image_model.proofs.SectorLemmas.{bytes_at_read}
 use Rattle.image_format.specs.declared.reading.ImageFormat.{ImageFormat}
 use Rattle.image_format.specs.Format.{IsFormat}
-use Rattle.journal_section.specs.Entries.{HoldsEntries, IsWithin}
+use Rattle.image_model.specs.Entries.{HoldsEntries, IsWithin}
 use Rattle.formatting_model.specs.Journal.{HasEmptyJournal, HasEmptyRest, HasEmptyRests, HasJournalBy, IsEmptyBehind, IsEmptySection, bitmap_taken, has_bitmap}
 use Rattle.formatting_model.specs.Bits.{HasBits}
 use Rattle.formatting_model.specs.Runs.{ChangesOnly}

@@ -9,7 +9,7 @@ use Rattle.disk_model.specs.Moments.{content_now, EachMoment, FromStart, HasNow}
 use Rattle.disk_model.proofs.DiskLemmas.{last_image-with_run, last_image-with_run_out, with_run-out}
 use Rattle.disk_model.proofs.MomentsLemmas.{EachMoment-join, EachMoment-weaker, FromStart-weaker, content_at_end}
 use Rattle.image_model.specs.Sectors.{zero_bytes}
-use Rattle.journal_section.specs.Entries.{IsWithin}
+use Rattle.image_model.specs.Entries.{IsWithin}
 use Rattle.formatting_model.specs.FirstSector.{zero_sector}
 use Rattle.formatting_model.specs.Runs.{ChangesOnly, HasZeros}
 

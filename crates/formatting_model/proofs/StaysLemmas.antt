@@ -8,7 +8,7 @@ use Rattle.disk_model.specs.Disk.{Content, last_candidate, last_image, sector_in
 use Rattle.disk_model.specs.Moments.{content_now, EachMoment, FromStart, HasNow}
 use Rattle.disk_model.proofs.DiskLemmas.{last_image-with_run, last_image-with_run_out, within_or_out}
 use Rattle.image_model.specs.Geometry.{Geometry, IsGeometry, data_at, tag_at}
-use Rattle.journal_section.specs.Entries.{IsWithin}
+use Rattle.image_model.specs.Entries.{IsWithin}
 use Rattle.formatting_model.specs.Blocks.{IsAreaRun}
 use Rattle.formatting_model.specs.Runs.{ChangesOnly}
 use Rattle.formatting_model.specs.Stays.{IsBlockByte, IsRunByte, ReadsKeep}

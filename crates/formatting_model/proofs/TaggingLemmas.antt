@@ -11,7 +11,7 @@ use Rattle.disk_model.specs.Moments.{content_now, EachMoment, FromStart, HasNow}
 use Rattle.disk_model.proofs.DiskLemmas.{Reads-one, last_image-with_run}
 use Rattle.hmac_tag.specs.TagMaker.{TagRule}
 use Rattle.image_model.specs.Geometry.{quotient_up}
-use Rattle.journal_section.specs.Entries.{IsWithin}
+use Rattle.image_model.specs.Entries.{IsWithin}
 use Rattle.place_model.proofs.TagsLemmas.{order}
 use Rattle.formatting_model.specs.Blocks.{HasTagRun, HoldsTags, byte_of_tags, zero_tag}
 use Rattle.formatting_model.specs.Runs.{ChangesOnly}

@@ -14,7 +14,7 @@ use Rattle.image_format.specs.declared.reading.ImageFormat.{ImageFormat}
 use Rattle.image_format.specs.Format.{IsFormat}
 use Rattle.formatting_model.proofs.JournalLemmas.{le_times}
 use Rattle.image_model.proofs.GeometryLemmas.{area_at-lt, area_blocks_some, data_at-inside, placed, tag_at-inside}
-use Rattle.journal_section.specs.Entries.{IsWithin}
+use Rattle.image_model.specs.Entries.{IsWithin}
 use Rattle.place_model.specs.Tags.{tag_byte_at}
 use Rattle.place_model.proofs.TagsLemmas.{data_once, order, tag_byte-no_data}
 use Rattle.formatting_model.specs.Blocks.{HasTagRun, HasZeroBlocks, IsAreaRun, IsBlockOf, IsSectorOf, zero_tag}

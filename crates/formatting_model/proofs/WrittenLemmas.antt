@@ -12,7 +12,7 @@ use Rattle.disk_model.proofs.MomentsLemmas.{EachMoment-join, EachMoment-weaker, 
 use Rattle.image_model.specs.Geometry.{Geometry, IsGeometry, data_at, initial, journal_sectors, quotient_up, tag_at}
 use Rattle.image_model.specs.Sectors.{zero_bytes}
 use Rattle.image_format.specs.declared.reading.ImageFormat.{ImageFormat}
-use Rattle.journal_section.specs.Entries.{IsWithin}
+use Rattle.image_model.specs.Entries.{IsWithin}
 use Rattle.place_model.proofs.TagsLemmas.{order, tag_byte-behind}
 use Rattle.formatting_model.specs.declared.new_image.NewImage.{NewImage}
 use Rattle.image_model.specs.declared.new_image.Wipe.{Wipe}

@@ -8,7 +8,7 @@ use Rattle.image_model.specs.Geometry.{Geometry, Shape, bitmap_sectors, regions,
 use Rattle.image_model.specs.Superblock.{has_flag}
 use Rattle.image_format.specs.declared.reading.ImageFormat.{ImageFormat}
 use Rattle.place_model.specs.Journal.{numbers_on}
-use Rattle.journal_section.specs.Entries.{BearsNumber, HoldsEntries}
+use Rattle.image_model.specs.Entries.{BearsNumber, HoldsEntries}
 use Rattle.formatting_model.specs.Bits.{HasBits}
 
 -- ---- a journal

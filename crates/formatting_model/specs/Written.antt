@@ -5,7 +5,7 @@ use Rattle.disk_model.specs.Disk.{Content, OnlyAdds, last_image}
 use Rattle.disk_model.specs.Moments.{EachSince}
 use Rattle.image_model.specs.Geometry.{Geometry, data_at, journal_sectors, quotient_up}
 use Rattle.image_format.specs.declared.reading.ImageFormat.{ImageFormat}
-use Rattle.journal_section.specs.Entries.{IsWithin}
+use Rattle.image_model.specs.Entries.{IsWithin}
 use Rattle.place_model.specs.Tags.{tag_byte_at}
 use Rattle.formatting_model.specs.declared.new_image.NewImage.{NewImage}
 use Rattle.image_model.specs.declared.new_image.Wipe.{Wipe}

@@ -5,7 +5,7 @@ ghost use Rattle.disk_model.specs.Disk.{last_image};
 ghost use Rattle.disk_model.specs.Identity.{IsBound};
 ghost use Rattle.disk_model.specs.Moments.{EachSince, HasNow};
 ghost use Rattle.image_model.specs.Geometry.{IsGeometry, journal_sectors, section_sectors};
-ghost use Rattle.journal_section.specs.Entries.{IsWithin};
+ghost use Rattle.image_model.specs.Entries.{IsWithin};
 ghost use Rattle.formatting_model.specs.Journal.{IsEmptyBehind};
 ghost use Rattle.formatting_model.specs.Runs.{ChangesOnly};
 

@@ -6,7 +6,7 @@ ghost use Rattle.disk_model.specs.Identity.{IsBound};
 ghost use Rattle.disk_model.specs.Moments.{EachSince, HasNow};
 ghost use Rattle.image_format.specs.Format.{IsFormat};
 ghost use Rattle.image_model.specs.Geometry.{IsGeometry, journal_sectors, section_sectors};
-ghost use Rattle.journal_section.specs.Entries.{IsWithin};
+ghost use Rattle.image_model.specs.Entries.{IsWithin};
 ghost use Rattle.formatting_model.specs.Formatted.{HasBlocks, HasFilled, IsBlocksByte, IsBlocksSector, IsFillSector, IsImageByte};
 ghost use Rattle.formatting_model.specs.Journal.{HasJournalPlace, bitmap_taken, has_bitmap, regions_set};
 ghost use Rattle.formatting_model.specs.Runs.{ChangesOnly};

@@ -4,7 +4,7 @@ ghost use Rattle.disk_model.specs.Causes.{HasCause};
 ghost use Rattle.disk_model.specs.Disk.{last_image};
 ghost use Rattle.disk_model.specs.Identity.{IsBound};
 ghost use Rattle.disk_model.specs.Moments.{EachSince, HasNow};
-ghost use Rattle.journal_section.specs.Entries.{IsWithin};
+ghost use Rattle.image_model.specs.Entries.{IsWithin};
 ghost use Rattle.formatting_model.specs.Bits.{HasBits, HoldsBits, IsWhole, bits_byte};
 ghost use Rattle.formatting_model.specs.Runs.{ChangesOnly};
 

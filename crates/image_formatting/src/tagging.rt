@@ -7,7 +7,7 @@ ghost use Rattle.disk_model.specs.Identity.{IsBound};
 ghost use Rattle.disk_model.specs.Moments.{EachSince, HasNow};
 ghost use Rattle.image_model.specs.Geometry.{quotient_up};
 ghost use Rattle.image_model.specs.Sectors.{zero_bytes};
-ghost use Rattle.journal_section.specs.Entries.{IsWithin};
+ghost use Rattle.image_model.specs.Entries.{IsWithin};
 ghost use Rattle.formatting_model.specs.Blocks.{HasTagRun, HoldsTags};
 ghost use Rattle.formatting_model.specs.Runs.{ChangesOnly};
 ghost use Rattle.formatting_model.specs.Stays.{IsRunByte, ReadsKeep};

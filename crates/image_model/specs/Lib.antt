@@ -11,6 +11,8 @@ pub mod Walk
 pub mod Scan
 pub mod Tables
 pub mod Section
+pub mod Entries
+pub mod EmptySections
 pub mod Grid
 pub mod Bitmap
 pub mod Cells

@@ -2,7 +2,7 @@
 -- entry. Source: Linux, drivers/md/dm-integrity.c, struct journal_entry and access_journal_entry.
 use Rattle.std.specs.Prelude.{ℕ, ◌+◌, ◌*◌, ◌-◌, ◌/◌, ◌%◌, ◌^◌, ◌==◌, Bool, not, if◌then◌else◌, List, ◌++◌, Option, Some, None, flat_map}
 use Rattle.std.specs.List.{range_with_len}
-use Rattle.image_model.specs.Geometry.{Shape, entry_size}
+use Rattle.image_model.specs.Geometry.{Shape, entry_size, section_sectors}
 use Rattle.image_model.specs.Sectors.{piece, number_in}
 
 -- A used entry: the first sector of its block, the block's bytes, and their tag.
@@ -10,6 +10,10 @@ pub record Entry : Type 0 where
   pub sector : ℕ
   pub bytes : List ℕ
   pub tag : List ℕ
+
+-- The bytes of section i.
+abbrev pub section_bytes : Shape → List ℕ → ℕ → List ℕ
+section_bytes shape bytes i = piece bytes (512 * (i * section_sectors shape)) (512 * section_sectors shape)
 
 -- The byte of a section where entry n begins: it stands in metadata sector n mod 8.
 abbrev pub entry_from : Shape → ℕ → ℕ

@@ -22,7 +22,7 @@ use Rattle.resize_model.specs.Growth.{Growth, IsOfNewBits, StandsFor, geometry_t
 use Rattle.resize_model.proofs.CallLemmas.{bits_done_law, bits_law, still_law, through_law}
 use Rattle.resize_model.proofs.GrowthLemmas.{sector_in-zeros}
 use Rattle.resize_model.proofs.PlacesLemmas.{more_regions_law}
-use Rattle.tag_store.specs.Store.{HoldsTag}
+use Rattle.place_model.specs.Tags.{HoldsTag}
 use Rattle.image_resizing.specs.declared.planning.Plan.{Plan}
 use Rattle.image_resizing.specs.Cleared.{ClearsSectors, StandsClearing, bits_begin, bits_end}
 use Rattle.image_resizing.specs.Filled.{HasFilledOn, read_tags}

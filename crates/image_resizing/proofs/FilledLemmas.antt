@@ -20,7 +20,8 @@ use Rattle.resize_model.specs.CallLaws.{AreTagsThen, IsNewSector, StandsThrough,
 use Rattle.resize_model.specs.Growth.{geometry_then}
 use Rattle.resize_model.proofs.CallLemmas.{still_law, tags_done_law, tags_law, through_law, zeros_done_law, zeros_law}
 use Rattle.resize_model.proofs.GrowthLemmas.{same_data}
-use Rattle.tag_store.specs.Store.{HoldsTag, tags_in}
+use Rattle.tag_store.specs.Store.{tags_in}
+use Rattle.place_model.specs.Tags.{HoldsTag}
 use Rattle.tag_store.specs.StoreLaws.{AreWhole}
 use Rattle.tag_store.proofs.StoreLemmas.{tags_in-same}
 use Rattle.image_resizing.specs.declared.planning.Plan.{Plan}

@@ -37,7 +37,8 @@ use Rattle.image_resizing.specs.declared.planning.Plan.{Plan}
 use Rattle.image_resizing.specs.Faults.{fault_told}
 use Rattle.image_resizing.specs.Grown.{IsResizedFrom}
 use Rattle.image_resizing.specs.Plan.{IsPlan, present_format}
-use Rattle.image_resizing.specs.Writing.{IsOfRecovering, IsWrittenBy}
+use Rattle.image_resizing.specs.Writing.{IsWrittenBy}
+use Rattle.place_model.specs.RecoveryWrites.{IsOfRecovering}
 use Rattle.image_resizing.specs.Settled.{ResizesInOrder, SettlesInOrder, journal_fault}
 
 -- ---- the journal

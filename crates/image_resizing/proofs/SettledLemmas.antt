@@ -25,7 +25,7 @@ use Rattle.resize_model.proofs.StepLemmas.{begins_law}
 use Rattle.replay.specs.declared.recovered.Recovered.{Recovered}
 use Rattle.replay.specs.Emptied.{KeepsResting}
 use Rattle.replay.specs.Recovery.{EntersRecovery, LeavesRecovered}
-use Rattle.replay.specs.Writes.{IsOfPlacing}
+use Rattle.place_model.specs.RecoveryWrites.{IsOfPlacing}
 use Rattle.tag_store.specs.Store.{Store}
 use Rattle.tag_store.proofs.StoreLemmas.{tags_in-same}
 use Rattle.image_resizing.specs.declared.planning.Plan.{Plan}

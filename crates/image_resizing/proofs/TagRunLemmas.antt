@@ -13,10 +13,10 @@ use Rattle.formatting_model.proofs.TaggingLemmas.{slice_index-sector_in}
 use Rattle.image_model.specs.Cells.{Cell, placed_cells_of}
 use Rattle.image_model.specs.Geometry.{Geometry, IsGeometry, area_at, quotient_up, tag_at}
 use Rattle.image_model.proofs.GeometryLemmas.{data_at-inside, placed, tag_at-inside, tags_in_order}
-use Rattle.place_model.specs.Tags.{IsOfTags, tag_byte_at}
+use Rattle.place_model.specs.Tags.{IsOfTags, tag_byte_at, HoldsTag}
 use Rattle.place_model.proofs.PlacedLemmas.{placed_tag, placed_tag-byte, placed_tag-length}
 use Rattle.place_model.proofs.TagsLemmas.{length-sector_in, order}
-use Rattle.tag_store.specs.Store.{HoldsTag, tags_in}
+use Rattle.tag_store.specs.Store.{tags_in}
 use Rattle.tag_store.specs.StoreLaws.{AreWhole}
 use Rattle.image_resizing.specs.Filled.{IsTagRow, tag_byte}
 

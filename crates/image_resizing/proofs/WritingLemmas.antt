@@ -14,7 +14,7 @@ use Rattle.image_model.specs.Geometry.{Geometry}
 use Rattle.image_model.specs.Superblock.{Superblock, has_flag, superblock_bytes}
 use Rattle.buffer_cache.proofs.CachedLemmas.{told_at_end}
 use Rattle.place_model.proofs.TagsLemmas.{tag_byte-behind}
-use Rattle.replay.specs.Writes.{IsOfRecovery}
+use Rattle.place_model.specs.RecoveryWrites.{IsOfRecovery, IsOfRecovering}
 use Rattle.resize_model.specs.CallLaws.{StandsThrough}
 use Rattle.resize_model.specs.Growth.{IsOfGrowth}
 use Rattle.resize_model.specs.Resized.{resized_head}
@@ -23,7 +23,7 @@ use Rattle.resize_model.proofs.PlacesLemmas.{resized_provided_law}
 use Rattle.image_resizing.specs.declared.planning.Plan.{Plan}
 use Rattle.image_resizing.specs.Grown.{IsPrepared}
 use Rattle.image_resizing.specs.Plan.{IsPlan, growth_of, present_format}
-use Rattle.image_resizing.specs.Writing.{Growing, IsOfRecovering, IsSettledBy, IsWrittenBehind, IsWrittenBy, Telling, head_over}
+use Rattle.image_resizing.specs.Writing.{Growing, IsSettledBy, IsWrittenBehind, IsWrittenBy, Telling, head_over}
 use Rattle.image_resizing.proofs.SettledLemmas.{data-late}
 
 -- What is so since the start is so by that, where it is told.

@@ -12,7 +12,7 @@ use Rattle.image_refusal.specs.declared.call_fault.CallFault.{CallFault}
 use Rattle.image_refusal.specs.declared.call_fault.CallFault.TheVariants.{Disk, Memory}
 use Rattle.image_refusal.specs.declared.resize_fault.ResizeFault.{ResizeFault}
 use Rattle.image_resizing.specs.Faults.{fault_in}
-use Rattle.image_resizing.specs.Writing.{IsOfRecovering}
+use Rattle.place_model.specs.RecoveryWrites.{IsOfRecovering}
 
 -- The numbers are those of the sectors that the image provides and that it is to provide,
 abbrev pub TellsProvided : Option (List ℕ) → (sectors : ℕ) → (before : List Content) → (told : ℕ × ℕ) → Type 0

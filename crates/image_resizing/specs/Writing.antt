@@ -4,22 +4,16 @@ use Rattle.std.specs.Prelude.{◌≡◌, ℕ, true, false, List}
 use Rattle.disk_model.specs.Disk.{Content, Image, OnlyAdds, last_image, newest_only}
 use Rattle.disk_model.specs.Moments.{EachMoment, HasNow}
 use Rattle.image_model.specs.declared.flags.TheConstants.{DIRTY_BITMAP}
-use Rattle.image_model.specs.Cells.{replayed_entries}
 use Rattle.image_model.specs.Geometry.{Geometry}
 use Rattle.image_model.specs.Superblock.{has_flag}
 use Rattle.place_model.specs.Format.{OpensAs}
-use Rattle.replay.specs.Writes.{IsOfRecovery}
+use Rattle.place_model.specs.RecoveryWrites.{IsOfRecovering}
 use Rattle.resize_model.specs.Growth.{Growth, IsOfGrowth}
 use Rattle.resize_model.specs.Resized.{resized_head}
 use Rattle.resize_model.specs.Written.{IsOfHead, IsToTell, IsWrittenByResize}
 use Rattle.image_resizing.specs.declared.planning.Plan.{Plan}
 use Rattle.image_resizing.specs.Grown.{IsSettledFrom, IsToGrow}
 use Rattle.image_resizing.specs.Plan.{growth_of, present_format}
-
--- The content comes by a recovery: what was pending is settled, and then nothing is written but entries of the image's
--- journal in their places, sectors of tags, and empty sections.
-abbrev pub IsOfRecovering : Geometry → (start c : Content) → Type 0
-IsOfRecovering g start c = OnlyAdds (IsOfRecovery g (replayed_entries g (last_image start))) (newest_only start) c
 
 -- A call writes no more than a recovery does.
 abbrev pub WritesRecovery : Geometry → (before after : List Content) → Type 0

@@ -7,7 +7,7 @@ use Rattle.image_model.specs.Geometry.{Geometry, geometry_of}
 use Rattle.image_model.specs.Openable.{first_sector}
 use Rattle.image_model.specs.Superblock.{Superblock, superblock_of}
 use Rattle.device_model.specs.Refusals.{ImageFault}
-use Rattle.recovery_laws.specs.Refusals.{fault_by_geometry, fault_by_superblock, read_fault_of}
+use Rattle.place_model.specs.Refusals.{fault_by_geometry, fault_by_superblock, read_fault_of}
 use Rattle.image_refusal.specs.declared.call_fault.CallFault.{CallFault}
 use Rattle.image_refusal.specs.declared.call_fault.CallFault.TheVariants.{Memory, Disk, Refused}
 use Rattle.image_refusal.specs.declared.open_fault.HeadFault.{HeadFault}

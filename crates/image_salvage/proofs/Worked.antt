@@ -12,7 +12,7 @@ use Rattle.device_model.specs.Refusals.{BySuperblock}
 use Rattle.image_refusal.specs.declared.call_fault.CallFault.TheVariants.{Disk, Memory, Refused}
 use Rattle.image_refusal.specs.declared.open_fault.HeadFault.TheVariants.{Super}
 use Rattle.place_model.proofs.WorkedDisk.{zeros_journal}
-use Rattle.recovery_laws.specs.Refusals.{read_fault_of}
+use Rattle.place_model.specs.Refusals.{read_fault_of}
 use Rattle.salvage_model.specs.Verdicts.{is_good}
 use Rattle.image_salvage.specs.declared.verdict.Verdict.{Verdict}
 use Rattle.image_salvage.specs.Refusing.{refusal_of}

@@ -4,7 +4,7 @@ use Rattle.std.specs.Prelude.{◌≡◌, ◌≢◌, ℕ, Option, Some, None, Lis
 use Rattle.disk_model.specs.Disk.{Content, last_image}
 use Rattle.disk_model.specs.Moments.{HasNow}
 use Rattle.device_model.specs.Refusals.{ImageFault, ByGeometry, BySuperblock}
-use Rattle.recovery_laws.specs.Refusals.{read_fault_of}
+use Rattle.place_model.specs.Refusals.{read_fault_of}
 use Rattle.image_refusal.specs.declared.call_fault.CallFault.{CallFault}
 use Rattle.image_refusal.specs.declared.call_fault.CallFault.TheVariants.{Memory, Disk, Refused}
 use Rattle.image_refusal.specs.declared.open_fault.HeadFault.{HeadFault}

@@ -12,8 +12,9 @@ use Rattle.command_task.specs.Words.{asked_of, key_file_of, key_file_of_asked}
 use Rattle.command_ending.specs.Ended.{ending_of}
 use Rattle.command_ending.specs.declared.ended.Ended.{Ended}
 use Rattle.command_ending.specs.declared.ended.Ended.TheVariants as Endings
-use Rattle.integrity_tool.specs.KeyFile.{HasFile, HasKeyRead, ReadsKey}
-use Rattle.command_task.specs.Outset.{key_by, key_in, keyed}
+use Rattle.integrity_tool.specs.KeyFile.{HasKeyRead, ReadsKey}
+use Rattle.command_model.specs.KeyFile.{HasFile}
+use Rattle.command_model.specs.Outset.{key_by, key_in, keyed}
 use Rattle.run_model.specs.declared.outer.Outer.TheVariants as outers
 use Rattle.command_ending.specs.declared.refusal.Refusal.TheVariants as refusals
 

@@ -12,16 +12,20 @@ use Rattle.command_ending.specs.declared.ended.Ended.{Ended}
 use Rattle.command_ending.specs.declared.ended.Ended.TheVariants as Endings
 use Rattle.command_task.specs.declared.asked.Asked.{Asked}
 use Rattle.command_task.specs.Words.{asked_of, key_file_of, key_file_of_asked}
-use Rattle.integrity_tool.specs.KeyFile.{HasFile, HasHash, IsKeyRefused, IsKeyed}
-use Rattle.integrity_tool.specs.Top.{Given, HasMomentsIn, IsGiven, IsLeftClosed, image_in, outset_in}
-use Rattle.integrity_tool.specs.World.{World}
+use Rattle.integrity_tool.specs.KeyFile.{HasHash, IsKeyRefused, IsKeyed}
+use Rattle.command_model.specs.KeyFile.{HasFile}
+use Rattle.integrity_tool.specs.Top.{HasMomentsIn, IsGiven, IsLeftClosed, image_in, outset_in}
+use Rattle.command_model.specs.Given.{Given}
+use Rattle.command_model.specs.World.{World}
 use Rattle.run_model.specs.CommandRun.{Outset, RefusedBy}
 use Rattle.command_task.specs.declared.telling.Telling.{Telling}
 use Rattle.command_task.specs.declared.telling.Telling.TheVariants.{Lines}
-use Rattle.command_task.specs.Opening.{HasReadIn, HasRunIn, IsMomentOf}
+use Rattle.command_task.specs.Opening.{HasRunIn}
+use Rattle.command_model.specs.Opening.{HasReadIn, IsMomentOf}
 use Rattle.command_task.specs.Closed.{IsClosedAt, IsClosedFor, IsClosedUnder}
 use Rattle.command_task.specs.Order.{HasMomentsAt, IsInOrderAt, IsInOrderFor, IsInOrderUnder}
-use Rattle.command_task.specs.Outset.{geometry_on, task_outset, keyed_outset, asked_outset}
+use Rattle.command_task.specs.Outset.{task_outset, keyed_outset, asked_outset}
+use Rattle.command_model.specs.Outset.{geometry_on}
 use Rattle.run_model.specs.declared.outer.Outer.TheVariants as outers
 use Rattle.command_ending.specs.declared.refusal.Refusal.TheVariants as refusals
 use Rattle.command_task.proofs.OutsetLemmas.{IsSound, sound_for}

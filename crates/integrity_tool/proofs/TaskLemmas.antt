@@ -7,7 +7,8 @@ use Rattle.run_model.specs.CommandRun.{Outset}
 use Rattle.command_task.specs.declared.asked.Task.{Task}
 use Rattle.command_task.specs.declared.telling.Telling.{Telling}
 use Rattle.command_task.specs.declared.telling.Telling.TheVariants.{Lines}
-use Rattle.command_task.specs.Opening.{EndsImage, HasReadIn, HasRunIn, HasRunOn}
+use Rattle.command_task.specs.Opening.{EndsImage, HasRunIn, HasRunOn}
+use Rattle.command_model.specs.Opening.{HasReadIn}
 use Rattle.command_task.specs.Order.{HasMomentsAt}
 use Rattle.command_task.specs.Outset.{task_outset}
 use Rattle.command_task.specs.Running.{ending_by}

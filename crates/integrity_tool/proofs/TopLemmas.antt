@@ -16,7 +16,7 @@ use Rattle.nbd_command.specs.ServedRun as ends
 use Rattle.nbd_command.specs.ServedRun.{SessionEnd, session_status}
 use Rattle.run_model.specs.ServedRun.{HasSessionCause}
 use Rattle.command_task.specs.Running.{IsBeforeScript}
-use Rattle.script_lines.specs.Taken.{HoldsText}
+use Rattle.command_model.specs.Taken.{HoldsText}
 use Rattle.script_lines.specs.Ends.{HasEndCause}
 use Rattle.integrity_tool.specs.KeyFile.{IsKeyRefused}
 use Rattle.command_task.specs.declared.telling.Telling.{Telling}
@@ -24,8 +24,10 @@ use Rattle.command_task.specs.declared.telling.Telling.TheVariants.{Lines, Repli
 use Rattle.command_task.specs.Opening.{EndsImage, HasRunIn, HasRunOn}
 use Rattle.command_task.specs.Serving.{session_ending}
 use Rattle.command_task.specs.Telling.{last_text}
-use Rattle.integrity_tool.specs.Top.{Given, HasStatus, IsCountedBy, TellsIn, TellsRun, outset_in}
-use Rattle.integrity_tool.specs.World.{Counts, rises}
+use Rattle.integrity_tool.specs.Top.{IsCountedBy, outset_in}
+use Rattle.command_model.specs.Given.{Given, TellsIn, TellsRun}
+use Rattle.command_model.specs.Status.{HasStatus}
+use Rattle.command_model.specs.World.{Counts, rises}
 use Rattle.command_task.proofs.EndedLemmas.{same_ended}
 use Rattle.command_task.proofs.RunningLemmas.{told_nothing}
 use Rattle.run_model.specs.declared.outer.Outer.TheVariants as outers

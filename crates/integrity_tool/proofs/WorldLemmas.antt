@@ -7,12 +7,13 @@ use Rattle.command_task.specs.declared.asked.Asked.{Asked}
 use Rattle.command_task.specs.declared.asked.Task.{Task}
 use Rattle.command_task.specs.declared.asked.Task.TheVariants as Tasks
 use Rattle.integrity_tool.specs.declared.top_call.Outside.{Outside}
-use Rattle.integrity_tool.specs.KeyFile.{HasFile, HasHash, IsKeyed, ReadsKey, ReadsKeyFile}
-use Rattle.command_task.specs.Outset.{key_by}
+use Rattle.integrity_tool.specs.KeyFile.{HasHash, IsKeyed, ReadsKey, ReadsKeyFile}
+use Rattle.command_model.specs.KeyFile.{HasFile}
+use Rattle.command_model.specs.Outset.{key_by}
 use Rattle.integrity_tool.specs.Top.{HasWrongKey}
 use Rattle.command_task.specs.Unopened.{IsUnopenedAt, IsUnopenedFor}
 use Rattle.command_task.specs.Words.{asked_of, key_file_of, key_file_of_asked}
-use Rattle.integrity_tool.specs.World.{World}
+use Rattle.command_model.specs.World.{World}
 use Rattle.command_task.proofs.EndedLemmas.{ok_no_err}
 use Rattle.command_ending.specs.declared.refusal.Refusal.TheVariants as refusals
 

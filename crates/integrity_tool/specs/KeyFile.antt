@@ -7,15 +7,11 @@ use Rattle.stream_io.specs.Stream.{TakesAtMost}
 use Rattle.command_ending.specs.declared.ended.Ended.{Ended}
 use Rattle.command_ending.specs.declared.ended.Ended.TheVariants as Endings
 use Rattle.integrity_tool.specs.declared.top_call.Outside.{Outside}
-use Rattle.command_task.specs.Outset.{key_by}
-use Rattle.integrity_tool.specs.World.{World}
+use Rattle.command_model.specs.Outset.{key_by}
+use Rattle.command_model.specs.World.{World}
+use Rattle.command_model.specs.KeyFile.{HasFile, most_read}
 use Rattle.run_model.specs.declared.outer.Outer.TheVariants as outers
 use Rattle.command_ending.specs.declared.refusal.Refusal.TheVariants as refusals
-
--- The key file has these bytes, where there is one.
-abbrev pub HasFile : Option (List ℕ) → (named : List ℕ → Option (List ℕ)) → List ℕ → Type 0
-HasFile None named bytes = Unit {0}
-HasFile (Some file) named bytes = named file ≡ Some bytes
 
 -- P of the key that the file's bytes are, or of why they are none, whatever bytes the file has.
 abbrev pub IsKeyed : Option (List ℕ) → (named : List ℕ → Option (List ℕ))
@@ -24,10 +20,6 @@ IsKeyed file named P = (bytes : List ℕ) → HasFile file named bytes → P (ke
 
 abbrev pub HasHash : (key : Option (List ℕ)) → Result (Option (List ℕ)) KeyRefusal → Type 0
 HasHash key told = told ≡ Ok key
-
--- So many bytes of a key file are read at most.
-abbrev pub most_read : ℕ
-most_read = 4097
 
 -- Where this ended what followed, the key file was read: its source did not fail, and there was memory.
 abbrev pub HasKeyRead : Ended → Type 0

@@ -1,4 +1,3 @@
 pub mod KeyFile
-pub mod World
 pub mod Ends
 pub mod Top

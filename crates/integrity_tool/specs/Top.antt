@@ -1,56 +1,41 @@
 -- What a command is given, and what it keeps of what lies outside, from first to last.
-use Rattle.std.specs.Prelude.{◌≡◌, ◌≢◌, ◌⊎◌, ℕ, ◌<◌, ◌≤◌, List, map, Some, None, Result, Err, IfErr, OnOk, String}
-use Rattle.std.proofs.Common.{inl, inr}
+use Rattle.std.specs.Prelude.{◌≡◌, ◌≢◌, ◌⊎◌, ℕ, ◌<◌, ◌≤◌, List, Some, None, Result, Err, IfErr, OnOk}
 use Rattle.std.specs.Option.{ForSome, IsSomeAnd}
-use Rattle.std.specs.String.{string_bytes}
-use Rattle.disk_model.specs.Causes.{Rose}
-use Rattle.disk_model.specs.Disk.{Content, Image, last_image}
+use Rattle.disk_model.specs.Disk.{Content, last_image}
 use Rattle.disk_model.specs.Identity.{IsBoundTo, NamedDisk}
 use Rattle.disk_model.specs.Moments.{content_now, EachMoment, HasNow}
-use Rattle.device_model.specs.Device.{DeviceKind}
-use Rattle.run_model.specs.Ending.{fault_text}
 use Rattle.run_model.specs.declared.key_refusal.KeyRefusal.{KeyRefusal}
-use Rattle.run_model.specs.CommandRun.{Faults, HasCauseIn, Outset, Serves, Tells}
-use Rattle.run_model.specs.ServedRun.{TellsServed}
+use Rattle.run_model.specs.CommandRun.{HasCauseIn, Outset}
 use Rattle.script_text.specs.declared.tags_found.TagsFound.{TagsFound}
 use Rattle.command_ending.specs.Ended.{ending_of}
 use Rattle.command_ending.specs.declared.ended.Ended.{Ended}
 use Rattle.command_ending.specs.declared.ended.Ended.TheVariants as Endings
 use Rattle.integrity_tool.specs.declared.top_call.Outside.{Outside}
 use Rattle.command_task.specs.Closed.{IsClosedFor}
-use Rattle.integrity_tool.specs.Ends.{Ends}
-use Rattle.integrity_tool.specs.KeyFile.{HasFile, ReadsKeyFile}
+use Rattle.command_model.specs.Ends.{Ends}
+use Rattle.integrity_tool.specs.KeyFile.{ReadsKeyFile}
+use Rattle.command_model.specs.KeyFile.{HasFile}
 use Rattle.command_task.specs.declared.telling.Telling.{Telling}
-use Rattle.command_task.specs.Opening.{HasReadIn, HasRunIn, IsMomentOf}
+use Rattle.command_task.specs.Opening.{HasRunIn}
+use Rattle.command_model.specs.Opening.{HasReadIn, IsMomentOf}
 use Rattle.command_task.specs.Order.{IsInOrderFor}
-use Rattle.command_task.specs.Outset.{geometry_on, key_by, outset_of}
+use Rattle.command_task.specs.Outset.{outset_of}
+use Rattle.command_model.specs.Outset.{geometry_on, key_by}
 use Rattle.command_task.specs.Running.{ending_by}
-use Rattle.script_lines.specs.Taken.{HasTaken}
+use Rattle.command_model.specs.Taken.{HasTaken}
 use Rattle.script_lines.specs.Ends.{IsCounted}
 use Rattle.command_task.specs.Serving.{most_taken_for}
 use Rattle.command_task.specs.Unopened.{IsUnopenedFor}
 use Rattle.command_task.specs.Words.{HasNoScript, asked_of, image_name, key_file_of_asked}
-use Rattle.integrity_tool.specs.World.{Counts, World, rises}
+use Rattle.command_model.specs.World.{Counts, World, rises}
+use Rattle.command_model.specs.Given.{Given, TellsIn}
 use Rattle.run_model.specs.declared.outer.Outer.TheVariants as outers
 
 -- ---- what a command is given
 
--- The bytes of each of the words.
-abbrev pub texts : {Z : Type 0} → List (String Z) → List (List ℕ)
-texts words = map string_bytes words
-
 -- What stands under the name of the image that a command names.
 abbrev pub image_in : (command : List (List ℕ)) → World → NamedDisk
 image_in command world = world.named (image_name command)
-
--- The words; the bytes of the key file, where they name one; how many sectors the image has that they name, and what it
--- holds; and the script.
-pub record Given : Type 0 where
-  pub words : List (List ℕ)
-  pub key_bytes : List ℕ
-  pub sectors : ℕ
-  pub content : Content
-  pub script : List ℕ
 
 -- A command is given this where the source of keys, the disk and the source of the script tell what they have.
 pub record IsGiven (command : List (List ℕ)) (world : World) (given : Given) : Type 0 where
@@ -92,33 +77,6 @@ abbrev pub ReadsNoFurther : Given → (first last : World) → Type 0
 ReadsNoFurther given first last =
     HasReadIn (outset_in given) given.script last.script first.held last.held (first.faults.script < last.faults.script)
 
--- It tells its run with this status, and leaves the image so. With another status than 6 no fault of the sink is passed
--- over: where all of the last line stands, the sink has not failed; it has failed in that line at most.
-pub record TellsRun (outset : Outset) (given : Given) (status : ℕ) (first last : Counts) (before after : List ℕ)
-    (later : Content) : Type 0 where
-  pub told : Tells outset given.content given.script before after status (rises first last) later
-  pub sink_passed : status ≢ 6 → told.line ≡ fault_text told.ending → last.sink ≡ first.sink
-
--- All of the last line stands, which a session does not have.
-abbrev pub HasWholeLine : {kind : DeviceKind} {image : Image} {start later : Content} {stream before after : List ℕ}
-    {status : ℕ} {faults : Faults} → TellsServed kind image start stream before after status faults later → Type 0
-HasWholeLine (inl unbegun) = unbegun.line ≡ fault_text unbegun.ended
-HasWholeLine (inr served) = Unit {0}
-
--- The same of a stream that is served: from the session's beginning on nothing but replies is written.
-pub record TellsSession (kind : DeviceKind) (image : Image) (given : Given) (status : ℕ) (first last : Counts)
-    (before after : List ℕ) (later : Content) : Type 0 where
-  pub told : TellsServed kind image given.content given.script before after status (rises first last) later
-  pub sink_passed : status ≢ 6 → HasWholeLine told → last.sink ≡ first.sink
-
--- Either of them, by what it starts on.
-abbrev pub TellsIn : Outset → Given → (status : ℕ) → (first last : Counts) → (before after : List ℕ)
-    → (later : Content) → Type 0
-TellsIn (Serves kind image) given status first last before after later =
-    TellsSession kind image given status first last before after later
-TellsIn outset given status first last before after later =
-    TellsRun outset given status first last before after later
-
 -- What a command with this status keeps of the world that gave it this: what it tells, where the sink tells what it
 -- holds; what stands at each moment, and in which order; what a close leaves, once it came to its end; that for want of
 -- memory no device was opened but behind the script's first byte; and how much of the script it takes.
@@ -152,20 +110,6 @@ RunsGiven world command telling result first last = (given : Given) → IsGiven 
     → KeepsRun command given telling result (world first) (world last)
 
 -- ---- its status
-
--- The status is one of 0 to 7; 4, 5 and 6 come only where the disk, a source or the sink failed; and no fault of the
--- disk or of a source is passed over by another status, and none of the sink by a run that came to its end.
-pub record HasStatus (before after : Counts) (status : ℕ) : Type 0 where
-  pub low : status ≤ 7
-  pub of_disk : status ≡ 4 → Rose before.disk after.disk
-  pub of_sources : status ≡ 5 → Rose before.key after.key ⊎ Rose before.script after.script
-  pub of_sink : status ≡ 6 → Rose before.sink after.sink
-  pub disk_passed : status ≢ 4 → after.disk ≡ before.disk
-  pub sources_passed : status ≢ 5 → (after.key ≡ before.key) × (after.script ≡ before.script)
-  pub sink_passed : status ≤ 1 → after.sink ≡ before.sink
-
-abbrev pub HasStatusIn : {T : Type 0} → (T → World) → (status : ℕ) → (first last : T) → Type 0
-HasStatusIn world status first last = HasStatus (world first).faults (world last).faults status
 
 -- What ends its run is the disk, a source or the sink only where the count of its faults rose,
 abbrev pub HasCauseOfCommand : {T R : Type 0} → (T → World) → Result R Ended → (first last : T) → Type 0

@@ -7,7 +7,7 @@ ghost use Rattle.command_task.specs.Closed.{ClosesTask};
 ghost use Rattle.command_task.specs.Opening.{EndsImage};
 ghost use Rattle.command_task.specs.Outset.{task_outset};
 ghost use Rattle.command_task.specs.Running.{ending_by};
-ghost use Rattle.script_lines.specs.Taken.{HasTaken};
+ghost use Rattle.command_model.specs.Taken.{HasTaken};
 ghost use Rattle.command_task.specs.Serving.{most_taken_at};
 ghost use Rattle.command_image.specs.Tasks.{found_by};
 ghost use Rattle.command_task.specs.Words.{IsTask};

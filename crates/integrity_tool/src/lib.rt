@@ -1,7 +1,7 @@
 //! The program as one call: what it does with its words, its disk, its key, its script and its output.
 //!
 //! `integrity` of `Outside` is the call, and its contract is the promise. `specs/Top.antt` is the file to read first,
-//! behind `run_model`'s `CommandRun.antt`.
+//! behind `run_model`'s `CommandRun.antt` and `command_model`'s `Given.antt`.
 #![tactic(auto)]
 
 mod carrying_out;

@@ -6,10 +6,13 @@ ghost use Rattle.disk_model.specs.Identity.{IsBoundTo, IsThere};
 ghost use Rattle.disk_model.specs.Moments.{content_now};
 ghost use Rattle.run_model.specs.Ending.{Complete, status_of};
 ghost use Rattle.script_text.specs.Found.{finds_fault};
-ghost use Rattle.integrity_tool.specs.Ends.{ends_by, ends_with};
+ghost use Rattle.integrity_tool.specs.Ends.{ends_by};
+ghost use Rattle.command_model.specs.Ends.{ends_with};
 ghost use Rattle.script_lines.specs.Ends.{IsCounted};
-ghost use Rattle.integrity_tool.specs.Top.{CallsOnly, HasCauseOfCommand, HasStatusIn, IsCountedInCommand, IsOnImage, KeepsGiven, ReadsOnly, RunsGiven, texts};
-ghost use Rattle.integrity_tool.specs.World.{World};
+ghost use Rattle.integrity_tool.specs.Top.{CallsOnly, HasCauseOfCommand, IsCountedInCommand, IsOnImage, KeepsGiven, ReadsOnly, RunsGiven};
+ghost use Rattle.command_model.specs.Status.{HasStatusIn};
+ghost use Rattle.command_model.specs.Given.{texts};
+ghost use Rattle.command_model.specs.World.{World};
 
 use crate::carrying_out::carry_out;
 use crate::keyed::hash_of;

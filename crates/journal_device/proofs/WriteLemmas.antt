@@ -10,11 +10,11 @@ use Rattle.disk_model.specs.Moments.{EachSince}
 use Rattle.disk_model.proofs.DiskLemmas.{OnlyAdds-wider}
 use Rattle.disk_model.proofs.MomentsLemmas.{EachMoment-kept, EachMoment-weaker, FromStart-weaker, adds_then, adds_wider}
 use Rattle.image_model.specs.Geometry.{Geometry}
-use Rattle.place_model.specs.Tags.{IsOfTags}
+use Rattle.place_model.specs.Tags.{IsOfTags, HoldsTag}
 use Rattle.direct_laws.specs.CallLaws.{AddsTags}
 use Rattle.hmac_tag.specs.TagMaker.{TagRule}
 use Rattle.recalculation.specs.declared.recalculating.Recalculation.{Recalculation}
-use Rattle.tag_store.specs.Store.{HoldsTag, IsOutForTag, IsStore, Store}
+use Rattle.tag_store.specs.Store.{IsOutForTag, IsStore, Store}
 use Rattle.journal_device.specs.Recalculating.{TakesIf, TakesIfIn}
 use Rattle.request_slots.specs.declared.turn.Turn.TheVariants as Turns
 use Rattle.device_parts.specs.declared.parts.Parts.{Parts}

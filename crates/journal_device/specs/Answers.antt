@@ -14,7 +14,8 @@ use Rattle.request_slots.specs.declared.turn.Turn.TheVariants as Turns
 use Rattle.recalculation.specs.declared.recalculating.Recalculation.{Recalculation}
 use Rattle.recalculation.specs.Awaiting.{awaiting_of}
 use Rattle.recalculation.specs.Recalculation.{HasFields, HasFieldsThrough, IsOfTagsOrHead, WritesRegion, count_of, fields_left, fields_then, next_of}
-use Rattle.tag_store.specs.Store.{HoldsTag, IsOutForTag}
+use Rattle.tag_store.specs.Store.{IsOutForTag}
+use Rattle.place_model.specs.Tags.{HoldsTag}
 use Rattle.device_parts.specs.declared.answers.Moved.{Moved}
 use Rattle.device_parts.specs.declared.answers.Served.{Served}
 use Rattle.device_parts.specs.declared.condition.Condition.TheVariants.{Working}

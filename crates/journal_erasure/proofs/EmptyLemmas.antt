@@ -5,17 +5,16 @@ use Rattle.std.proofs.lemmas.Bool.{cases_lt}
 use Rattle.commit_id.specs.declared.shape.Shape.{Shape}
 use Rattle.commit_id.specs.Shape.{as_shape}
 use Rattle.image_model.specs.Geometry.{Geometry, Shape as SectionShape, journal_sectors, section_at, section_entries, section_sectors}
-use Rattle.image_model.specs.Section.{Entry}
+use Rattle.image_model.specs.Section.{Entry, section_bytes}
 use Rattle.image_model.proofs.SectorLemmas.{length-piece}
 use Rattle.journal_model.specs.Batch.{AreSections, IsSection}
 use Rattle.journal_model.specs.Erasing.{IsEmptyJournal}
 use Rattle.journal_model.specs.JournaledDisk.{JournaledDisk}
 use Rattle.journal_model.proofs.BatchLemmas.{has_sections, section_is}
 use Rattle.journal_laws.proofs.StepLemmas.{sealed_law}
-use Rattle.journal_ring.specs.Sections.{section_bytes}
-use Rattle.journal_section.specs.Entries.{BearsNumber, HoldsEntries}
+use Rattle.image_model.specs.Entries.{BearsNumber, HoldsEntries}
 use Rattle.journal_ring.proofs.SectionsLemmas.{IsPutThere, used-cleared}
-use Rattle.journal_erasure.specs.EmptySections.{IsEmptySection, AreEmptySections, empty_image}
+use Rattle.image_model.specs.EmptySections.{IsEmptySection, AreEmptySections, empty_image}
 
 module _ (d : JournaledDisk) (number : ℕ) (bytes : List ℕ) (are : AreEmptySections d.geometry number bytes) where
   abbrev none : ℕ → List Entry

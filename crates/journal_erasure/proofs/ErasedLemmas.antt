@@ -21,7 +21,7 @@ use Rattle.journal_erasure.specs.declared.part.Part.TheVariants.{Others, Newest}
 use Rattle.journal_erasure.specs.declared.erasure.Erasure.{Erasure}
 use Rattle.journal_erasure.specs.Newest.{is_newest}
 use Rattle.journal_erasure.specs.Parts.{is_of_part}
-use Rattle.journal_erasure.specs.EmptySections.{AreEmptySections, empty_image}
+use Rattle.image_model.specs.EmptySections.{AreEmptySections, empty_image}
 use Rattle.journal_erasure.specs.Erased.{IsErased}
 use Rattle.journal_erasure.specs.Erasing.{IsErasureOf, IsOfPart, with_empty_journal, with_part}
 use Rattle.journal_erasure.proofs.PartsLemmas.{chosen-adds, chosen-image, last-chosen}

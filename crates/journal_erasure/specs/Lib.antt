@@ -1,6 +1,5 @@
 pub mod Newest
 pub mod Parts
-pub mod EmptySections
 pub mod Erasing
 pub mod Erased
 pub mod ErasureLaws

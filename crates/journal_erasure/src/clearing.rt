@@ -1,7 +1,7 @@
 //! The bytes of an empty journal.
 ghost use Rattle.std.specs.Prelude.{◌≡◌, ◌*◌, ◌<◌, ℕ, length};
 ghost use Rattle.image_model.specs.Geometry.{IsGeometry, journal_sectors};
-ghost use Rattle.journal_erasure.specs.EmptySections.{AreEmptySections};
+ghost use Rattle.image_model.specs.EmptySections.{AreEmptySections};
 
 use image_model::SECTOR_SIZE;
 use journal_section::clear;

@@ -7,7 +7,7 @@ ghost use Rattle.disk_model.specs.Moments.{EachMoment, EachSince, HasNow, IsChan
 ghost use Rattle.image_model.specs.Geometry.{IsGeometry, journal_sectors, section_at};
 ghost use Rattle.image_model.specs.Walk.{later as number_later};
 ghost use Rattle.journal_model.specs.JournaledDisk.{JournaledDisk, IsCutOf, StandsFor};
-ghost use Rattle.journal_erasure.specs.EmptySections.{AreEmptySections, empty_image};
+ghost use Rattle.image_model.specs.EmptySections.{AreEmptySections, empty_image};
 ghost use Rattle.journal_erasure.specs.Erased.{IsErased};
 ghost use Rattle.journal_erasure.specs.Erasing.{ErasesFirst, IsErasing, IsErasureFor, IsErasureOf, IsOfPart};
 ghost use Rattle.journal_erasure.specs.Erasing.{with_empty_journal, with_part};

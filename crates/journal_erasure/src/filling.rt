@@ -5,7 +5,7 @@ ghost use Rattle.disk_model.specs.Disk.{OnlyAdds, newest_only};
 ghost use Rattle.disk_model.specs.Identity.{IsBound};
 ghost use Rattle.disk_model.specs.Moments.{EachSince, IsChangedBy};
 ghost use Rattle.image_model.specs.Geometry.{IsGeometry, journal_sectors};
-ghost use Rattle.journal_erasure.specs.EmptySections.{AreEmptySections};
+ghost use Rattle.image_model.specs.EmptySections.{AreEmptySections};
 ghost use Rattle.journal_erasure.specs.Filling.{IsOfLacking, with_lacking};
 
 use crate::clearing::clear_sections;

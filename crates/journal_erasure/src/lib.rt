@@ -2,9 +2,9 @@
 //! of one that is blank.
 //!
 //! A contract sees an `Erasure` as it is, and the bytes that are written as those of empty sections
-//! (`specs/EmptySections.antt`); `specs/Erasing.antt` is the file to read first. The sectors of the newest number
-//! are written last, after a sync of all others. So no image has entries that count but those of the journal as it
-//! was. What fills a blank journal is said in `specs/Filling.antt`. No memory is taken.
+//! (`image_model`, `specs/EmptySections.antt`); `specs/Erasing.antt` is the file to read first. The sectors of the
+//! newest number are written last, after a sync of all others. So no image has entries that count but those of the
+//! journal as it was. What fills a blank journal is said in `specs/Filling.antt`. No memory is taken.
 #![tactic(auto)]
 
 mod clearing;

@@ -11,7 +11,7 @@ use Rattle.journal_model.specs.HistoryOf.{entry_of_write}
 use Rattle.journal_model.specs.JournaledDisk.{JournaledDisk}
 use Rattle.journal_model.specs.Ring.{JournalRing, has_room, with_put, next_batch, IsNextBatch, with_commit, with_settle}
 use Rattle.journal_model.specs.Steps.{IsBatch, after_commit, after_place, after_settle}
-use Rattle.journal_section.specs.Entries.{HoldsEntries, BearsNumber}
+use Rattle.image_model.specs.Entries.{HoldsEntries, BearsNumber}
 use Rattle.journal_laws.specs.Device.{placed_count, IsJournalRing, IsJournalOf}
 
 -- ---- put

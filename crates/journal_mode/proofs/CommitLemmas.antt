@@ -34,7 +34,8 @@ use Rattle.replay.specs.CommitLaws.{ReadsWhole}
 use Rattle.replay.specs.DeclaredPlacement.{Placement}
 use Rattle.replay.proofs.CommitLawsLemmas.{placed_commit_law}
 use Rattle.replay.proofs.PlacingLawsLemmas as placing
-use Rattle.tag_store.specs.Store.{HoldsTag, IsStore, Store}
+use Rattle.tag_store.specs.Store.{IsStore, Store}
+use Rattle.place_model.specs.Tags.{HoldsTag}
 use Rattle.tag_store.proofs.StoreLawsLemmas.{elsewhere_law}
 use Rattle.replay.specs.Placement.{IsPlacementOf}
 use Rattle.journal_mode.specs.Commits.{CommitsAs, HasBatch, HasCommitted, HasNoBatch, after_batch}

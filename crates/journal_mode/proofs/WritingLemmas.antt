@@ -15,7 +15,7 @@ use Rattle.journal_ring.specs.declared.ring.Moved.{Moved}
 use Rattle.journal_ring.specs.declared.ring.Moved.TheVariants.{Did, Idle}
 use Rattle.replay.specs.Moves.{HasPlaced, WritesEntry, WritesNext}
 use Rattle.replay.specs.Placement.{placed_in}
-use Rattle.replay.specs.Writes.{IsOfPlacing}
+use Rattle.place_model.specs.RecoveryWrites.{IsOfPlacing}
 use Rattle.replay.proofs.WritesLemmas.{among_more, entry_adds, tags_add}
 use Rattle.tag_store.specs.Store.{IsMarkedTags, Store}
 use Rattle.journal_mode.specs.Closing.{WritesAll, WritesEntries, committed_to_place, entries_to_place}

@@ -11,7 +11,7 @@ use Rattle.device_model.specs.Journal.{JournalCounts}
 use Rattle.journal_model.specs.JournaledDisk.{JournaledDisk}
 use Rattle.journal_model.specs.Ring.{JournalRing, entries_of}
 use Rattle.replay.specs.Placement.{placed_in}
-use Rattle.replay.specs.Writes.{IsOfPlacing}
+use Rattle.place_model.specs.RecoveryWrites.{IsOfPlacing}
 use Rattle.tag_store.specs.Store.{Store}
 use Rattle.journal_mode.specs.Commits.{WritesBatches, with_disk}
 use Rattle.journal_mode.specs.Journal.{PlacedRing, sections_of}

@@ -10,7 +10,7 @@ use Rattle.image_model.proofs.Bounds.{HasEntries}
 use Rattle.image_model.proofs.SectionLemmas.{entry_at-unused, entry_at-used}
 use Rattle.image_model.proofs.SectorLemmas.{length-piece}
 use Rattle.journal_section.specs.declared.entries.EntryView.{EntryView}
-use Rattle.journal_section.specs.Entries.{entries_of}
+use Rattle.image_model.specs.Entries.{entries_of}
 use Rattle.journal_section.specs.View.{view_of}
 use Rattle.journal_section.proofs.EntriesLemmas.{entries_of-at}
 use Rattle.journal_reading.specs.Entries.{entry_with}

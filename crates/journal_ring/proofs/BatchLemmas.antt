@@ -6,11 +6,11 @@ use Rattle.std.proofs.lemmas.List.{map-append, drop-map}
 use Rattle.std.proofs.lemmas.List.FromFn.{length-map-range_with_len, get_or-map-range_with_len, take-map-range_with_len}
 use Rattle.std.proofs.Math.Nat.{mul-le-mul_right}
 use Rattle.image_model.specs.Geometry.{Geometry, section_entries, section_sectors}
-use Rattle.image_model.specs.Section.{Entry}
+use Rattle.image_model.specs.Section.{Entry, section_bytes}
 use Rattle.image_model.specs.Sectors.{piece}
 use Rattle.image_model.specs.Walk.{later}
 use Rattle.image_model.proofs.SectorLemmas.{length-piece, piece-piece}
-use Rattle.journal_section.specs.Entries.{BearsNumber}
+use Rattle.image_model.specs.Entries.{BearsNumber}
 use Rattle.journal_model.specs.Batch.{AreSections, IsSection}
 use Rattle.journal_model.specs.Cuts.{next_after, number_after}
 use Rattle.journal_model.specs.Ring.{next_batch, opened_at, IsNextBatch, JournalRing, with_commit}
@@ -19,7 +19,7 @@ use Rattle.journal_laws.proofs.StepLemmas.{sealed_law}
 use Rattle.journal_ring.specs.declared.marks.Marks.{Marks}
 use Rattle.journal_ring.specs.Batch.{next_of, batch_of, committed_marks}
 use Rattle.journal_ring.specs.RoomLaws.{HasBounds}
-use Rattle.journal_ring.specs.Sections.{wrap, section_bytes, used_in, filled}
+use Rattle.journal_ring.specs.Sections.{wrap, used_in, filled}
 use Rattle.journal_ring.specs.Ring.{section_of, entries_held, view_of, number_at, IsRing}
 use Rattle.journal_ring.proofs.SectionsLemmas.{used-filled}
 use Rattle.journal_ring.proofs.WrapLemmas.{wrap-below, wrap-above, wrap-inside, wrap-wrap}

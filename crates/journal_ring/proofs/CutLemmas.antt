@@ -4,11 +4,11 @@ use Rattle.std.proofs.lemmas.Bool.{cases_lt}
 use Rattle.std.proofs.lemmas.List.{drop-append-le, drop-drop, drop_at, length-take-le, take-append-le, take_at}
 use Rattle.image_model.proofs.Bounds.{has_entries}
 use Rattle.image_model.specs.Geometry.{Geometry, Shape, section_entries, section_sectors, IsGeometry}
-use Rattle.image_model.specs.Section.{Entry, parts_of}
+use Rattle.image_model.specs.Section.{Entry, parts_of, section_bytes}
 use Rattle.sector_pool.specs.Run.{with_bytes, Piece}
 use Rattle.journal_section.specs.Pieces.{with_piece, with_pieces, HasPieces, PutsEntry}
 use Rattle.journal_ring.specs.Runs.{bytes_of, sections_of, FollowOn, HaveSize, IsAsCut, IsCut, IsPieces, PutsInRuns, Sections}
-use Rattle.journal_ring.specs.Sections.{section_bytes, ChangesSection}
+use Rattle.journal_ring.specs.Sections.{ChangesSection}
 use Rattle.journal_ring.proofs.RunsLemmas.{bytes_of-append}
 
 -- ---- runs of one size

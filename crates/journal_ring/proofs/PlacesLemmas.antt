@@ -7,8 +7,8 @@ use Rattle.std.proofs.lemmas.List.FromFn.{length-map-range_with_len, get_or-map-
 use Rattle.std.proofs.lemmas.Option.{none-some}
 use Rattle.image_model.specs.Geometry.{section_sectors, Geometry, Shape, section_entries}
 use Rattle.journal_section.proofs.EntriesLemmas.{length-entries_of}
-use Rattle.image_model.specs.Section.{Entry}
-use Rattle.journal_section.specs.Entries.{entries_of, BearsNumber, HoldsEntries}
+use Rattle.image_model.specs.Section.{Entry, section_bytes}
+use Rattle.image_model.specs.Entries.{entries_of, BearsNumber, HoldsEntries}
 use Rattle.commit_id.specs.declared.shape.Shape.{Shape as RustShape}
 use Rattle.commit_id.specs.Shape.{IsShape}
 use Rattle.commit_id.proofs.ShapeLemmas.{shape_holds}
@@ -20,7 +20,7 @@ use Rattle.std.proofs.lemmas.List.{length-take-le}
 use Rattle.image_model.specs.Geometry.{IsGeometry}
 use Rattle.image_model.proofs.Bounds.{has_entries}
 use Rattle.journal_ring.specs.declared.marks.Marks.{Marks}
-use Rattle.journal_ring.specs.Sections.{wrap, section_bytes, used_in, filled, IsHeld}
+use Rattle.journal_ring.specs.Sections.{wrap, used_in, filled, IsHeld}
 use Rattle.journal_ring.specs.Ring.{section_of, entries_held, view_of, number_at, IsRing}
 use Rattle.journal_ring.specs.Places.{oldest_at, oldest_of, position, entries_at, is_committed, is_free, with_free}
 use Rattle.journal_ring.proofs.WrapLemmas.{wrap-below, wrap-above, wrap-inside, wrap-differs, wrap-wrap}

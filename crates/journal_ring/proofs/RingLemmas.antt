@@ -7,12 +7,12 @@ use Rattle.std.proofs.lemmas.List.{get_or_default, get_or-set_same, get_or-set_o
 use Rattle.std.proofs.Math.Nat.{mul-le-mul_left, mul-le-mul_right}
 use Rattle.image_model.proofs.Bounds.{has_entries}
 use Rattle.image_model.specs.Geometry.{Geometry, Shape, section_entries, section_sectors, IsGeometry}
-use Rattle.image_model.specs.Section.{Entry}
-use Rattle.journal_section.specs.Entries.{BearsNumber, HoldsEntries}
+use Rattle.image_model.specs.Section.{Entry, section_bytes}
+use Rattle.image_model.specs.Entries.{BearsNumber, HoldsEntries}
 use Rattle.journal_section.specs.Pieces.{PutsEntry}
 use Rattle.journal_model.specs.Ring.{JournalRing, takes_more, has_open_section, put_last, with_put, HasFreeSection}
 use Rattle.journal_ring.specs.declared.marks.Marks.{Marks}
-use Rattle.journal_ring.specs.Sections.{wrap, section_bytes, used_in, IsHeld, ChangesSection}
+use Rattle.journal_ring.specs.Sections.{wrap, used_in, IsHeld, ChangesSection}
 use Rattle.journal_ring.specs.Ring.{section_of, entries_held, view_of, number_at, IsRing, with_section, with_open, with_entry}
 use Rattle.journal_ring.proofs.SectionsLemmas.{used-put, used-cleared, IsHeld-put, IsHeld-cleared, BearsNumber-put}
 use Rattle.journal_ring.proofs.WrapLemmas.{wrap-inside, wrap-differs, wrap-wrap}

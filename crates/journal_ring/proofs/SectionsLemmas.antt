@@ -7,14 +7,14 @@ use borrow.Rule.Slice.PartMut.{put_mid}
 use Rattle.std.proofs.lemmas.List.Elements.{filter_map-append}
 use Rattle.image_model.specs.CommitId.{number_of}
 use Rattle.image_model.specs.Geometry.{Shape, section_entries, section_sectors}
-use Rattle.image_model.specs.Section.{Entry}
+use Rattle.image_model.specs.Section.{Entry, section_bytes}
 use Rattle.image_model.specs.Sectors.{piece}
 use Rattle.image_model.proofs.SectorLemmas.{number_in-same}
-use Rattle.journal_section.specs.Entries.{BearsNumber, HoldsEntries}
+use Rattle.image_model.specs.Entries.{BearsNumber, HoldsEntries}
 use Rattle.journal_section.specs.Pieces.{with_piece, PutsEntry}
 use Rattle.journal_section.proofs.PiecesLemmas.{length-with_piece, piece-with_piece, piece-elsewhere}
 use Rattle.journal_section.proofs.SectorsLemmas.{id_in-sector_in}
-use Rattle.journal_ring.specs.Sections.{section_bytes, used_in, filled, IsHeld, ChangesSection}
+use Rattle.journal_ring.specs.Sections.{used_in, filled, IsHeld, ChangesSection}
 
 -- ---- used and unused entries
 

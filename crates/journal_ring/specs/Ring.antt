@@ -2,12 +2,12 @@
 use Rattle.std.specs.Prelude.{◌≡◌, ℕ, ◌+◌, ◌*◌, ◌^◌, ◌<◌, ◌≤◌, ltb, false, if◌then◌else◌, List, [], ◌∷◌, ◌++◌, length, map, slice_index}
 use Rattle.std.specs.List.{range_with_len}
 use Rattle.image_model.specs.Geometry.{Geometry, section_sectors, IsGeometry}
-use Rattle.image_model.specs.Section.{Entry}
+use Rattle.image_model.specs.Section.{Entry, section_bytes}
 use Rattle.image_model.specs.Walk.{later}
-use Rattle.journal_section.specs.Entries.{BearsNumber}
+use Rattle.image_model.specs.Entries.{BearsNumber}
 use Rattle.journal_model.specs.Ring.{JournalRing, has_open_section, put_last}
 use Rattle.journal_ring.specs.declared.marks.Marks.{Marks}
-use Rattle.journal_ring.specs.Sections.{wrap, section_bytes, used_in, IsHeld}
+use Rattle.journal_ring.specs.Sections.{wrap, used_in, IsHeld}
 
 -- Which section lies k sections behind the oldest one.
 abbrev pub section_of : Geometry → Marks → ℕ → ℕ

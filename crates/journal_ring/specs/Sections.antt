@@ -2,17 +2,12 @@
 use Rattle.std.specs.Prelude.{◌≡◌, ◌≢◌, ℕ, ◌+◌, ◌-◌, ◌*◌, ◌≤◌, ltb, if◌then◌else◌, List, ◌++◌, length, map, replicate, Option, Some, None}
 use Rattle.std.specs.List.{filter_map}
 use Rattle.image_model.specs.Geometry.{Shape, section_entries, section_sectors}
-use Rattle.image_model.specs.Section.{Entry}
-use Rattle.image_model.specs.Sectors.{piece}
-use Rattle.journal_section.specs.Entries.{entries_of, HoldsEntries}
+use Rattle.image_model.specs.Section.{Entry, section_bytes}
+use Rattle.image_model.specs.Entries.{entries_of, HoldsEntries}
 
 -- The section that lies here in the ring, of so many: behind the last one comes the first.
 abbrev pub wrap : ℕ → ℕ → ℕ
 wrap sections at = if ltb at sections then at else at - sections
-
--- The bytes of section i.
-abbrev pub section_bytes : Shape → List ℕ → ℕ → List ℕ
-section_bytes shape bytes i = piece bytes (512 * (i * section_sectors shape)) (512 * section_sectors shape)
 
 -- The used entries of a section, in order.
 abbrev pub used_in : Shape → List ℕ → List Entry

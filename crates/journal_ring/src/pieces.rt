@@ -6,10 +6,10 @@ ghost use Rattle.std.specs.Prelude.{◌≡◌, ◌≢◌, ℕ, ◌+◌, ◌*◌,
 ghost use Rattle.std.specs.Vec.{vec_capacity};
 ghost use Rattle.commit_id.specs.Shape.{as_shape, IsShape};
 ghost use Rattle.image_model.specs.Geometry.{journal_sectors, section_at, section_entries};
-ghost use Rattle.image_model.specs.Section.{Entry, parts_of};
-ghost use Rattle.journal_section.specs.Entries.{BearsNumber, HoldsEntries};
+ghost use Rattle.image_model.specs.Section.{Entry, parts_of, section_bytes};
+ghost use Rattle.image_model.specs.Entries.{BearsNumber, HoldsEntries};
 ghost use Rattle.journal_section.specs.Pieces.{PutsEntry};
-ghost use Rattle.journal_ring.specs.Sections.{section_bytes, ChangesSection};
+ghost use Rattle.journal_ring.specs.Sections.{ChangesSection};
 
 use crate::pool::{clear_section, section, sections};
 use crate::putting::put_in;

@@ -2,8 +2,9 @@
 ghost use Rattle.std.specs.Prelude.{◌≡◌, ◌+◌, ◌*◌, ◌^◌, ◌<◌, ◌≤◌, length, replicate, None};
 ghost use Rattle.commit_id.specs.Shape.{as_shape, IsShape};
 ghost use Rattle.image_model.specs.Sectors.{piece};
-ghost use Rattle.journal_section.specs.Entries.{BearsNumber, HoldsEntries};
-ghost use Rattle.journal_ring.specs.Sections.{section_bytes, ChangesSection};
+ghost use Rattle.image_model.specs.Entries.{BearsNumber, HoldsEntries};
+ghost use Rattle.journal_ring.specs.Sections.{ChangesSection};
+ghost use Rattle.image_model.specs.Section.{section_bytes};
 
 use commit_id::Shape;
 use image_model::SECTOR_SIZE;

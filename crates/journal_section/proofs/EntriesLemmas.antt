@@ -1,4 +1,4 @@
--- Lemmas on the words of specs/Entries.antt.
+-- Lemmas on the words of specs/Entries.antt of `image_model`.
 use Rattle.std.proofs.Common.{◌≡◌, ◌≢◌, ◌⊎◌, inl, inr, ℕ, zero, suc, not, true, ◌+◌, ◌-◌, ◌*◌, ◌%◌, ◌^◌, ◌<◌, ◌≤◌, List, [], ◌∷◌, ◌++◌, length, take, get_or, replicate, set, slice_index, Option, Some, None, refl, sym, ap, subst, ◌∙◌, arith, length-set}
 use Rattle.std.specs.List.{range_with_len, flat_map}
 use Rattle.std.proofs.lemmas.Bool.{cases_Bool, cases_eq, cases_lt, eq-eqb, ne_eqb}
@@ -12,7 +12,7 @@ use Rattle.image_model.specs.Sectors.{piece, number_in}
 use Rattle.image_model.proofs.Bounds.{HasEntries}
 use Rattle.image_model.proofs.SectionLemmas.{entry_at-unused, entry_at-used}
 use Rattle.image_model.proofs.SectorLemmas.{number_in-same, piece-same, piece-piece}
-use Rattle.journal_section.specs.Entries.{entries_of, HoldsEntries, IsNamedBy, IsWithin}
+use Rattle.image_model.specs.Entries.{entries_of, HoldsEntries, IsNamedBy, IsWithin}
 use Rattle.journal_section.specs.Pieces.{HasPieces, with_piece}
 use Rattle.journal_section.proofs.PiecesLemmas.{length-with_piece, take-with_piece, with_piece-inside, with_piece-outside}
 use Rattle.journal_section.proofs.PlaceLemmas.{entry_fits, entry_in_meta, parts_fit}

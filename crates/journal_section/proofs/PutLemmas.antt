@@ -9,7 +9,7 @@ use Rattle.image_model.specs.Sectors.{piece}
 use Rattle.image_model.proofs.Bounds.{HasEntries}
 use Rattle.image_model.proofs.SectionLemmas.{entry_at-used}
 use Rattle.image_model.proofs.SectorLemmas.{number_in-same, number_in-add, piece-same, piece-piece, piece-add}
-use Rattle.journal_section.specs.Entries.{HoldsEntries, IsNamed, IsNamedBy, IsOfEntry, IsWithin}
+use Rattle.image_model.specs.Entries.{HoldsEntries, IsNamed, IsNamedBy, IsOfEntry, IsWithin}
 use Rattle.journal_section.specs.Fields.{HasFields}
 use Rattle.journal_section.specs.Pieces.{HasPieces, PutsEntry, with_piece, with_pieces}
 use Rattle.journal_section.proofs.PiecesLemmas.{length-with_piece, with_piece-inside, with_piece-outside}

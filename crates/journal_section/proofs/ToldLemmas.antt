@@ -14,7 +14,7 @@ use Rattle.image_model.proofs.CommitIdLemmas.{number_of_tells}
 use Rattle.image_model.proofs.SectionLemmas.{entry_at-unused, entry_at-used}
 use Rattle.image_model.proofs.SectorLemmas.{bytes_of-number_in, length-piece}
 use Rattle.disk_model.specs.Disk.{sector_in}
-use Rattle.journal_section.specs.Entries.{BearsNumber, HoldsEntries, IsNamed, IsNamedBy}
+use Rattle.image_model.specs.Entries.{BearsNumber, HoldsEntries, IsNamed, IsNamedBy}
 use Rattle.journal_section.proofs.EntriesLemmas.{cases_within, entries_of-at, length-entries_of}
 use Rattle.journal_section.proofs.PlaceLemmas.{entry_in_meta, parts_fit}
 use Rattle.journal_section.proofs.SectorsLemmas.{id_in-sector_in}

@@ -8,7 +8,7 @@ use Rattle.image_model.proofs.Bounds.{HasEntries}
 use Rattle.image_model.proofs.SectionLemmas.{entry_at-used}
 use Rattle.image_model.proofs.SectorLemmas.{number_in-take, piece-piece}
 use Rattle.journal_section.specs.declared.entries.EntryView.{EntryView}
-use Rattle.journal_section.specs.Entries.{entries_of}
+use Rattle.image_model.specs.Entries.{entries_of}
 use Rattle.journal_section.specs.View.{view_of}
 use Rattle.journal_section.proofs.EntriesLemmas.{entries_of-at, entry_at-unused_word, is_used-word}
 use Rattle.journal_section.proofs.PlaceLemmas.{entry_in_meta}

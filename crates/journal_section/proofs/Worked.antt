@@ -6,7 +6,7 @@ use Rattle.image_model.specs.CommitId.{commit_id, commit_number, number_of, id_i
 use Rattle.image_model.specs.Geometry.{Shape, entry_size, entries_per_sector, section_entries}
 use Rattle.image_model.specs.Section.{is_used, entry_at}
 use Rattle.image_model.specs.Sectors.{bytes_of}
-use Rattle.journal_section.specs.Entries.{entries_of}
+use Rattle.image_model.specs.Entries.{entries_of}
 use Rattle.journal_section.specs.Pieces.{with_pieces}
 
 abbrev shape : Shape

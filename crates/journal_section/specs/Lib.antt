@@ -1,4 +1,3 @@
-pub mod Entries
 pub mod Pieces
 pub mod View
 pub mod Fields

@@ -3,7 +3,7 @@ use Rattle.std.specs.Prelude.{◌≡◌, ℕ, ◌+◌, ◌*◌, ◌%◌, ◌≤�
 use Rattle.std.specs.List.{concat}
 use Rattle.image_model.specs.Geometry.{Shape, section_sectors}
 use Rattle.image_model.specs.Section.{Entry, parts_of}
-use Rattle.journal_section.specs.Entries.{entries_of, HoldsEntries, IsOfEntry}
+use Rattle.image_model.specs.Entries.{entries_of, HoldsEntries, IsOfEntry}
 
 -- The bytes with others in their place from byte `at` on.
 abbrev pub with_piece : ℕ → List ℕ → List ℕ → List ℕ

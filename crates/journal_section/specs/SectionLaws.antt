@@ -3,7 +3,7 @@ use Rattle.std.specs.Prelude.{◌≡◌, ℕ, ◌<◌, List, slice_index, Option
 use Rattle.commit_id.specs.declared.shape.Shape.{Shape}
 use Rattle.commit_id.specs.Shape.{as_shape, IsShape}
 use Rattle.image_model.specs.Section.{Entry}
-use Rattle.journal_section.specs.Entries.{BearsNumber, HoldsEntries}
+use Rattle.image_model.specs.Entries.{BearsNumber, HoldsEntries}
 
 -- Sections that hold the same entries under the same commit number have the same bytes.
 abbrev pub SectionIsTold : Type 0

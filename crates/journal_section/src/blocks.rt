@@ -3,7 +3,7 @@ ghost use Rattle.std.specs.Prelude.{◌≡◌, ℕ, ◌+◌, ◌*◌, ◌%◌, �
 ghost use Rattle.std.specs.Option.{ForSome, IfSome};
 ghost use Rattle.commit_id.specs.Shape.{as_shape, IsShape};
 ghost use Rattle.image_model.specs.Section.{block_in};
-ghost use Rattle.journal_section.specs.Entries.{entries_of};
+ghost use Rattle.image_model.specs.Entries.{entries_of};
 ghost use Rattle.journal_section.specs.Pieces.{HasPieces};
 
 use crate::places::{WORD, entry_from, put};

@@ -2,7 +2,7 @@
 ghost use Rattle.std.specs.Prelude.{◌≡◌, ℕ, ◌+◌, ◌*◌, ◌^◌, ◌<◌, length, replicate, None, slice_index};
 ghost use Rattle.commit_id.specs.Shape.{as_shape, IsShape};
 ghost use Rattle.image_model.specs.Section.{entry_from};
-ghost use Rattle.journal_section.specs.Entries.{BearsNumber, HoldsEntries, IsWithin};
+ghost use Rattle.image_model.specs.Entries.{BearsNumber, HoldsEntries, IsWithin};
 
 use crate::places::{entry_from, put};
 use crate::sealing::seal;

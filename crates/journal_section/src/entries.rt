@@ -3,7 +3,7 @@ ghost use Rattle.std.specs.Prelude.{◌≡◌, ℕ, ◌+◌, ◌*◌, ◌^◌, �
 ghost use Rattle.std.specs.Option.{option_map};
 ghost use Rattle.commit_id.specs.Shape.{as_shape, IsShape};
 ghost use Rattle.image_model.specs.Section.{Entry};
-ghost use Rattle.journal_section.specs.Entries.{entries_of};
+ghost use Rattle.image_model.specs.Entries.{entries_of};
 ghost use Rattle.journal_section.specs.Pieces.{HasPieces, PutsEntry, with_pieces};
 ghost use Rattle.journal_section.specs.View.{view_of};
 ghost use Rattle.journal_section.specs.Fields.{HasFields};

@@ -1,8 +1,8 @@
 //! The bytes of a journal section: its entries, put and read, and the commit ids of its sectors.
 //!
-//! A contract sees a section as the list of its entries (`entries_of` in `specs/Entries.antt`, the file to
-//! read first), an `EntryView` as the sector and the tag of an entry, and the pieces that a call is given as
-//! those of a section (`specs/Pieces.antt`). What one entry is stands in `image_model`,
+//! A contract sees a section as the list of its entries (`entries_of` in `image_model`, `specs/Entries.antt`,
+//! the file to read first), an `EntryView` as the sector and the tag of an entry, and the pieces that a call is
+//! given as those of a section (`specs/Pieces.antt`). What one entry is stands in `image_model`, too,
 //! `specs/Section.antt`. No memory is taken.
 #![tactic(auto)]
 

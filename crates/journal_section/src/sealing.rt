@@ -2,7 +2,7 @@
 ghost use Rattle.std.specs.Prelude.{◌≡◌, ℕ, ◌*◌, ◌%◌, ◌^◌, ◌<◌, List, length, Option, slice_index};
 ghost use Rattle.commit_id.specs.Shape.{as_shape, IsShape};
 ghost use Rattle.image_model.specs.Section.{Entry};
-ghost use Rattle.journal_section.specs.Entries.{BearsNumber, HoldsEntries};
+ghost use Rattle.image_model.specs.Entries.{BearsNumber, HoldsEntries};
 
 use crate::places::put_number;
 use commit_id::{Shape, id};

@@ -82,6 +82,11 @@ fault_by_format key consent image (Err fault) = Some (ByHead fault)
 abbrev pub fault_of : (key : Option (List ℕ)) → Consent → (sectors : ℕ) → Image → Option ImageFault
 fault_of key consent sectors image = fault_by_format key consent image (format_of sectors image)
 
+-- The fault of an image on a disk of so many sectors in recovery mode, if it has one: by superblock and geometry alone,
+-- whatever its flags, its journal and its bitmap say.
+abbrev pub format_fault_of : (sectors : ℕ) → Image → Option ImageFault
+format_fault_of sectors image = fault_by (λ format. None) (format_of sectors image)
+
 -- ---- what is told
 
 -- The fault of an image for which it is refused,

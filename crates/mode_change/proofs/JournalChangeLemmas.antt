@@ -18,7 +18,7 @@ use Rattle.place_model.specs.Format.{DiskFormat, HasCells, cells_on, tagger_of}
 use Rattle.place_model.specs.History.{BlockWrite, cells_after}
 use Rattle.place_model.specs.Journal.{IsOfJournal}
 use Rattle.bitmap_model.specs.BitmapDisk.{BitmapDisk, HasNoOtherBits, bit_in}
-use Rattle.journal_erasure.specs.EmptySections.{AreEmptySections, empty_image}
+use Rattle.image_model.specs.EmptySections.{AreEmptySections, empty_image}
 use Rattle.change_model.specs.Change.{IsOfFilling, IsOfHead, IsOfRest, IsOfZeros, ModeChange, ReadsRest, ReadsZeros, old_bitmap}
 use Rattle.change_model.specs.Ends.{ArePlacedTags, format_after}
 use Rattle.change_model.specs.Fields.{KeepsRest, journal_fields, with_head}
@@ -31,7 +31,8 @@ use Rattle.change_model.proofs.FieldsLemmas.{head_bytes_law}
 use Rattle.change_model.proofs.OpenedLemmas.{opens_journal_done, opens_journal_moments, rest_synced, same_format_left_law, some_sector}
 use Rattle.change_model.proofs.PlacedLemmas.{bitmap_phase_law, bitmap_phase_written, journal_inside, zero_bit}
 use Rattle.mode_change.specs.ToBitmap.{MarksFormat, with_fields, with_zeros}
-use Rattle.mode_change.specs.ToJournal.{BecomesJournal, IsAmidJournal, IsJournalChangeOf, IsOfJournalChange, KeepsRecalculated, OpensJournal, StepsToJournal, journal_format, with_any, with_filling, with_journal, with_rest}
+use Rattle.mode_change.specs.ToJournal.{BecomesJournal, IsAmidJournal, IsJournalChangeOf, KeepsRecalculated, OpensJournal, StepsToJournal, journal_format, with_any, with_filling, with_journal, with_rest}
+use Rattle.change_model.specs.OpeningWrites.{IsOfJournalChange}
 use Rattle.mode_change.proofs.StepLemmas.{head_step, zeros_head, zeros_step}
 use Rattle.mode_change.proofs.JournalStepLemmas.{empty_of, filling_step, rest_head, rest_step}
 

@@ -14,7 +14,7 @@ use Rattle.place_model.specs.Format.{DiskFormat}
 use Rattle.bitmap_laws.proofs.CallLemmas.{run_image}
 use Rattle.journal_model.specs.Erasing.{IsEmptyJournal}
 use Rattle.journal_model.specs.JournaledDisk.{JournaledDisk}
-use Rattle.journal_erasure.specs.EmptySections.{AreEmptySections, empty_image}
+use Rattle.image_model.specs.EmptySections.{AreEmptySections, empty_image}
 use Rattle.journal_erasure.proofs.EmptyLemmas.{empty_journal}
 use Rattle.change_model.specs.Change.{IsOfFilling, IsOfRest, ReadsRest}
 use Rattle.change_model.specs.Whole.{IsStep}

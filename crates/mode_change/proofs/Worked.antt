@@ -14,7 +14,7 @@ use Rattle.change_model.specs.Ends.{ArePlacedTags}
 use Rattle.change_model.specs.Fields.{bitmap_fields, journal_fields, with_head}
 use Rattle.change_model.specs.Opened.{bitmap_change, journal_change}
 use Rattle.change_model.proofs.WorkedDisk.{IsEmptiedOf-fresh, IsEntry-bitmap, IsEntry-fresh, IsRecalculatedOf-fresh, bitmap_content, bitmap_disk, bitmap_tags, content, fresh, tags}
-use Rattle.journal_erasure.specs.EmptySections.{AreEmptySections, empty_image}
+use Rattle.image_model.specs.EmptySections.{AreEmptySections, empty_image}
 use Rattle.mode_change.specs.ToBitmap.{IsBitmapOf, bitmap_count, bitmap_format, with_bitmap}
 use Rattle.mode_change.specs.ToJournal.{IsJournalOf, journal_format as with_a_journal, with_journal}
 use Rattle.mode_change.proofs.ChangeLemmas.{becomes_bitmap}

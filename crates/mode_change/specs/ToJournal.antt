@@ -1,21 +1,21 @@
 -- A change from a bitmap to a journal: the format behind it, what it writes, and what each moment of it keeps.
 -- Own: the disk is synced first, then zeros are written in the bitmap's place, then empty sectors behind it, then
 -- sector 0, and then empty sectors in the bitmap's place; each is synced.
-use Rattle.std.specs.Prelude.{◌≡◌, ◌⊎◌, ℕ, ◌+◌, ◌*◌, List, [], ◌∷◌, Option, drop, take}
+use Rattle.std.specs.Prelude.{◌≡◌, ℕ, ◌+◌, ◌*◌, List, [], ◌∷◌, Option, drop, take}
 use Rattle.disk_model.specs.Disk.{Content, EachImage, Image, OnlyAdds, last_image, newest_only, with_run}
 use Rattle.disk_model.specs.Moments.{EachSince, HasNow}
 use Rattle.image_model.specs.Geometry.{Geometry, bitmap_sectors}
 use Rattle.image_format.specs.declared.reading.ImageFormat.{ImageFormat}
 use Rattle.image_format.specs.Format.{disk_format}
 use Rattle.place_model.specs.Format.{DiskFormat, HasCells, cells_on}
-use Rattle.journal_erasure.specs.EmptySections.{AreEmptySections, empty_image}
-use Rattle.place_model.specs.Journal.{IsOfJournal}
+use Rattle.image_model.specs.EmptySections.{empty_image}
 use Rattle.bitmap_model.specs.BitmapDisk.{BitmapDisk}
-use Rattle.change_model.specs.Change.{IsOfHead, IsOfZeros, ModeChange}
+use Rattle.change_model.specs.Change.{ModeChange}
 use Rattle.change_model.specs.Ends.{ArePlacedTags, IsNewJournal, format_after}
 use Rattle.change_model.specs.Fields.{KeepsRest, journal_fields, with_head}
 use Rattle.change_model.specs.Opened.{IsEntry, IsRecalculatedOf, KeepsEntry, journal_change, rest_of}
 use Rattle.change_model.specs.Whole.{IsToJournalMoment}
+use Rattle.change_model.specs.OpeningWrites.{IsOfJournalChange}
 use Rattle.mode_change.specs.ToBitmap.{with_fields, with_zeros}
 
 -- ---- the format
@@ -44,20 +44,6 @@ with_filling g empty c = newest_only (with_run 8 (take (512 * bitmap_sectors g) 
 abbrev pub with_journal : ImageFormat → (empty : List ℕ) → Content → Content
 with_journal f empty c = with_filling f.geometry empty (with_fields (journal_fields f.fields)
     (with_rest f.geometry empty (with_zeros (bitmap_sectors f.geometry) (newest_only c))))
-
--- The bytes are those of a journal that is empty with the number 0, in one of its sectors.
-pub record IsOfNewJournal (g : Geometry) (sector : ℕ) (x : List ℕ) : Type 0 where
-  pub bytes : List ℕ
-  pub empty : AreEmptySections g 0 bytes
-  pub on : IsOfJournal g sector
-  pub is : x ≡ empty_image g bytes sector
-
--- The bytes are zeros in the bitmap's place, or those of such a journal, or those of sector 0 as it was, with the new
--- fields.
-abbrev pub IsOfJournalChange : ImageFormat → (start : Content) → (sector : ℕ) → List ℕ → Type 0
-IsOfJournalChange f start sector x =
-    IsOfZeros f.geometry (bitmap_sectors f.geometry) sector x ⊎ (IsOfNewJournal f.geometry sector x
-    ⊎ IsOfHead (with_head (journal_fields f.fields) (last_image start 0)) sector x)
 
 -- ---- each moment
 

@@ -6,7 +6,7 @@ ghost use Rattle.disk_model.specs.Identity.{IsBound};
 ghost use Rattle.disk_model.specs.Moments.{EachSince, IsChangedBy};
 ghost use Rattle.image_model.specs.Geometry.{IsGeometry, bitmap_sectors, journal_sectors};
 ghost use Rattle.change_model.specs.Change.{IsOfFilling, IsOfRest};
-ghost use Rattle.journal_erasure.specs.EmptySections.{empty_image};
+ghost use Rattle.image_model.specs.EmptySections.{empty_image};
 ghost use Rattle.mode_change.specs.ToJournal.{with_any, with_filling, with_rest};
 
 use image_model::SECTOR_SIZE;

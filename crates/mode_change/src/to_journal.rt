@@ -9,7 +9,7 @@ ghost use Rattle.disk_model.specs.Identity.{IsBound};
 ghost use Rattle.disk_model.specs.Moments.{IsChangedBy};
 ghost use Rattle.image_model.specs.Geometry.{journal_sectors};
 ghost use Rattle.image_format.specs.Format.{IsBitmapFormat, IsDirectFormat};
-ghost use Rattle.journal_erasure.specs.EmptySections.{AreEmptySections};
+ghost use Rattle.image_model.specs.EmptySections.{AreEmptySections};
 ghost use Rattle.mode_change.specs.ToJournal.{OpensJournal, StepsToJournal, journal_format, with_journal};
 
 use crate::emptying::{fill_blank, write_rest};

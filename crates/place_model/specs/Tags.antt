@@ -10,6 +10,14 @@ use Rattle.image_model.specs.Geometry.{Geometry, data_at, tag_at, byte_place}
 unfoldable pub tag_byte_at : Geometry → ℕ → ℕ → BytePlace
 tag_byte_at g b i = byte_place ((tag_at g b).sector + ((tag_at g b).byte + i) / 512) (((tag_at g b).byte + i) % 512)
 
+-- A byte of the tag of some block stands in the sector.
+pub record HoldsTag (g : Geometry) (sector : ℕ) : Type 0 where
+  pub block : ℕ
+  pub byte : ℕ
+  pub block_low : block < g.blocks
+  pub byte_low : byte < g.shape.tag_size
+  pub is : sector ≡ (tag_byte_at g block byte).sector
+
 -- The tags with a new one of a block.
 abbrev pub with_block_tag : ℕ → List ℕ → (ℕ → List ℕ) → ℕ → List ℕ
 with_block_tag block tag tags b = if block == b then tag else tags b

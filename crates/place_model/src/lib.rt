@@ -1,6 +1,8 @@
 //! Definitions and laws: what all modes of a device share, from the disk that it opens to what a cut may leave of it.
 //!
-//! `specs/Format.antt` is the file to read first: the disk, its tags and the cells of its images.
+//! `specs/Format.antt` is the file to read first: the disk, its tags and the cells of its images. Which sectors a
+//! recovery, a call and a run write stands in `specs/RecoveryWrites.antt`, `specs/Places.antt` and
+//! `specs/RunWrites.antt`, and which tags are kept, or awaited, in `specs/KeptTags.antt` and `specs/Awaiting.antt`.
 #![tactic(auto)]
 
 ghost use Rattle.place_model.specs.FirstSync.{FirstSyncLaw, OpeningLeftLaw, PlacedOpeningLeftLaw, PlacedSyncLaw};

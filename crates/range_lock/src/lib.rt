@@ -2,7 +2,7 @@
 //!
 //! A contract sees the `Ranges` as how many slots there are and the list of what was asked and is not released, in
 //! order of asking (`specs/Asks.antt`, the file to read first). What overlaps is the word of `device_model`, and
-//! `proofs/AskedLemmas.antt` says that these answers are those of requests in flight there.
+//! `proofs/InFlightLemmas.antt` says that these answers are those of requests in flight there.
 #![tactic(auto)]
 
 mod ask;

@@ -11,7 +11,8 @@ use Rattle.place_model.proofs.TagsLemmas.{tag_byte-behind}
 use Rattle.direct_laws.specs.CallLaws.{GivesTags}
 use Rattle.change_model.specs.Fields.{with_head}
 use Rattle.buffer_cache.proofs.CachedLemmas.{told_at_end}
-use Rattle.tag_store.specs.Store.{HoldsTag, IsStore, Store, given_tags}
+use Rattle.tag_store.specs.Store.{IsStore, Store, given_tags}
+use Rattle.place_model.specs.Tags.{HoldsTag}
 use Rattle.tag_store.proofs.StoreLawsLemmas.{elsewhere_law, same_tags_law, synced_law}
 use Rattle.direct_mode.proofs.StoreCalls.{ReadsWhole, given-whole}
 

@@ -18,7 +18,7 @@ use Rattle.hmac_tag.specs.TagMaker.{TagRule}
 use Rattle.change_model.specs.Opened.{IsEmptiedOf}
 use Rattle.change_model.specs.PhaseLaws.{no_region}
 use Rattle.recalculate_laws.specs.Taking.{KeepsAwaitingNow}
-use Rattle.tag_store.specs.Store.{HoldsTag}
+use Rattle.place_model.specs.Tags.{HoldsTag}
 use Rattle.recalculation.specs.Awaiting.{AwaitingRegions, IsOpening, awaiting_of}
 use Rattle.recalculation.specs.AllWithBitmap.{RecalculatesWithBitmap, StandsWithBitmap}
 use Rattle.recalculation.specs.Recalculation.{AwaitsBlocksOf}

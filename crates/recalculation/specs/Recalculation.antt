@@ -19,7 +19,8 @@ use Rattle.recalculate_laws.specs.Formats.{under_fields}
 use Rattle.recalculate_laws.specs.Position.{moved_fields}
 use Rattle.hmac_tag.specs.TagMaker.{TagRule}
 use Rattle.direct_mode.specs.Settling.{SettlesIn}
-use Rattle.tag_store.specs.Store.{HoldsTag, IsStore, Store}
+use Rattle.tag_store.specs.Store.{IsStore, Store}
+use Rattle.place_model.specs.Tags.{HoldsTag}
 use Rattle.recalculation.specs.declared.recalculating.Recalculation.{Recalculation}
 use Rattle.recalculation.specs.Awaiting.{AwaitingRegions, awaiting_blocks, awaiting_of}
 use Rattle.recalculation.specs.Position.{HasMoved, MovesIn, fields_to_write}

@@ -18,7 +18,7 @@ use Rattle.place_model.specs.Kind.{kind_in}
 use Rattle.place_model.specs.Opened.{device_format, opened_on}
 use Rattle.place_model.proofs.WorkedDisk.{journal_format, zeros_journal, IsReadAs-zeros}
 use Rattle.recovery_laws.specs.Device.{IsRecoveryDevice}
-use Rattle.recovery_laws.specs.Refusals.{read_fault_of}
+use Rattle.place_model.specs.Refusals.{read_fault_of}
 use Rattle.recovery_laws.proofs.EventLemmas.{close_law, opening_law, event_law, read_law, flush_law, placed_law, write_law}
 use Rattle.recovery_laws.proofs.MomentLemmas.{kept_law, left_law}
 

@@ -9,7 +9,7 @@ use Rattle.image_model.specs.Walk.{later}
 use Rattle.place_writer.proofs.StoreCalls.{ReadsWhole}
 use Rattle.journal_model.specs.Erasing.{after_erasure}
 use Rattle.journal_model.specs.JournaledDisk.{JournaledDisk}
-use Rattle.journal_erasure.specs.EmptySections.{empty_image}
+use Rattle.image_model.specs.EmptySections.{empty_image}
 use Rattle.journal_erasure.specs.Erased.{IsErased}
 use Rattle.journal_erasure.specs.Erasing.{with_empty_journal}
 use Rattle.place_writer.specs.Cells.{HasCells}

@@ -35,7 +35,7 @@ use Rattle.journal_model.specs.JournaledDisk.{IsCutOf, JournaledDisk, Rests, Sta
 use Rattle.change_model.specs.Filling.{IsBlankDisk, IsOfBlank, ReadsFilled, StandsFilling, after_filling, filled_journal}
 use Rattle.change_model.proofs.BlankLemmas.{blank_counts_none}
 use Rattle.change_model.proofs.FillingLemmas.{filling_begins, filling_cut, filling_ends, filling_goes_on}
-use Rattle.journal_erasure.specs.EmptySections.{AreEmptySections, empty_image}
+use Rattle.image_model.specs.EmptySections.{AreEmptySections, empty_image}
 use Rattle.journal_erasure.specs.Filling.{IsOfLacking, lacks_number, with_lacking}
 use Rattle.journal_erasure.proofs.EmptyLemmas.{empty_journal}
 use Rattle.journal_erasure.proofs.PartsLemmas.{chosen-adds, chosen-image, last-chosen, last-other}
@@ -43,10 +43,12 @@ use Rattle.journal_reading.specs.declared.reading.JudgedJournal.{JudgedJournal}
 use Rattle.journal_reading.specs.Journal.{FitsJournal, IsJournalOn}
 use Rattle.place_writer.specs.Cells.{HasCells}
 use Rattle.place_writer.proofs.StoreCalls.{ReadsWhole}
-use Rattle.tag_store.specs.Store.{HoldsTag, IsStore, Store, given_tags}
+use Rattle.tag_store.specs.Store.{IsStore, Store, given_tags}
+use Rattle.place_model.specs.Tags.{HoldsTag}
 use Rattle.replay.specs.declared.recovered.Recovered.{Recovered}
 use Rattle.replay.specs.Recovery.{IsReplayed, LeavesRecovered}
-use Rattle.replay.specs.Writes.{FillsBlank, IsOfBlankSector, IsOfEmptyJournal, IsOfPlacing, IsOfUnnumbered}
+use Rattle.replay.specs.Writes.{FillsBlank, IsOfBlankSector, IsOfUnnumbered}
+use Rattle.place_model.specs.RecoveryWrites.{IsOfEmptyJournal, IsOfPlacing}
 use Rattle.replay.proofs.BehindLemmas.{KeepsBehind, changed_recovered, store_changed}
 use Rattle.replay.proofs.FinishingLemmas.{rules}
 use Rattle.replay.proofs.RestingLemmas.{same_plan}

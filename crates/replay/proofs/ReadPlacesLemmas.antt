@@ -9,7 +9,7 @@ use Rattle.image_model.proofs.SectorLemmas.{length-piece, piece-piece}
 use Rattle.place_model.proofs.TagsLemmas.{tag_byte-no_data}
 use Rattle.buffer_cache.proofs.CachedLemmas.{changed_now, told_at_end}
 use Rattle.direct_laws.specs.CallLaws.{KeepsOthersNow}
-use Rattle.tag_store.specs.Store.{HoldsTag}
+use Rattle.place_model.specs.Tags.{HoldsTag}
 use Rattle.replay.specs.ReadPlaces.{ReadPlaces, ShowsPlaces, ShowsRun}
 
 -- Where none was read, none is shown otherwise.

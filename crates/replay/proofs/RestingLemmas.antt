@@ -16,7 +16,7 @@ use Rattle.image_model.proofs.TablesLemmas.{rest_plan}
 use Rattle.place_model.specs.Journal.{numbers_on}
 use Rattle.place_model.proofs.JournalLemmas.{walk_of-plan}
 use Rattle.replay.specs.Emptied.{IsRestingJournal, KeepsResting}
-use Rattle.replay.specs.Writes.{IsOfEmptyJournal, IsOfPlacing}
+use Rattle.place_model.specs.RecoveryWrites.{IsOfEmptyJournal, IsOfPlacing}
 
 -- A section has a sector.
 pub some_sectors : (g : Geometry) (sectors : ℕ) → IsGeometry g sectors → 0 < section_sectors g.shape

@@ -4,7 +4,7 @@ use Rattle.std.specs.List.{Contains, slice_index_or}
 use Rattle.image_model.specs.Geometry.{Geometry, data_at, sector_at, tag_at, tag_offset, section_sectors, section_entries, entries_per_sector, entry_size}
 use Rattle.image_model.specs.Section.{Entry}
 use Rattle.place_model.specs.Tags.{tag_byte_at}
-use Rattle.replay.specs.Writes.{IsOfEntry, IsOfRecovery}
+use Rattle.place_model.specs.RecoveryWrites.{IsOfEntry, IsOfRecovery}
 
 -- The small image: 256 sectors, one section of 88 sectors behind the superblock, and areas of 8 sectors of tags and 8 of
 -- data from sector 96 on.

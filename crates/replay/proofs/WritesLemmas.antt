@@ -10,14 +10,15 @@ use Rattle.image_model.specs.Cells.{replayed_entries}
 use Rattle.image_model.specs.Geometry.{Geometry, IsGeometry, data_at, section_at, tag_at}
 use Rattle.image_model.specs.Section.{Entry}
 use Rattle.place_writer.specs.DirectModeCells.{IsOfBlockOrTags}
-use Rattle.journal_erasure.specs.EmptySections.{AreEmptySections}
+use Rattle.image_model.specs.EmptySections.{AreEmptySections}
 use Rattle.journal_reading.specs.declared.reading.JudgedJournal.{JudgedJournal}
 use Rattle.journal_reading.specs.Journal.{journal_image}
-use Rattle.tag_store.specs.Store.{HoldsTag, IsMarkedTags, IsOfPut, IsOutForTag, IsStore, Store}
+use Rattle.tag_store.specs.Store.{IsMarkedTags, IsOfPut, IsOutForTag, IsStore, Store}
+use Rattle.place_model.specs.Tags.{HoldsTag}
 use Rattle.tag_store.proofs.SpansLemmas.{first_in_span}
 use Rattle.tag_store.proofs.StoreLemmas.{HoldsTag-span, tag-span}
 use Rattle.replay.specs.Replaying.{IsReadOn, entries_on}
-use Rattle.replay.specs.Writes.{IsOfEmptyJournal, IsOfPlacing, IsOfRecovery}
+use Rattle.place_model.specs.RecoveryWrites.{IsOfEmptyJournal, IsOfPlacing, IsOfRecovery}
 use Rattle.replay.proofs.ReplayingLemmas.{entries_read}
 
 -- ---- entries are placed

@@ -1,18 +1,15 @@
--- An image whose journal is at rest, so that a recovery leaves it as it is; and one whose journal is empty, so that an
--- emptying does.
--- Own: a journal is empty where it has one commit number and no used entry.
-use Rattle.std.specs.Prelude.{◌≡◌, ℕ, ◌<◌, List, [], Some}
+-- An image whose journal is at rest, so that a recovery leaves it as it is.
+use Rattle.std.specs.Prelude.{◌≡◌, ℕ, List, Some}
 use Rattle.std.specs.List.{Contains}
 use Rattle.disk_model.specs.Disk.{Content, Image, OnlyAdds, last_image}
 use Rattle.disk_model.specs.Moments.{EachSince}
 use Rattle.image_model.specs.Cells.{last_entry, placed_cells_of, replayed_entries}
 use Rattle.image_model.specs.Geometry.{Geometry, section_sectors}
 use Rattle.image_model.specs.Section.{Entry}
-use Rattle.image_model.specs.Tables.{IsAtRest, IsWholly}
+use Rattle.image_model.specs.Tables.{IsAtRest}
 use Rattle.journal_model.specs.Entries.{cell_of}
-use Rattle.place_model.specs.Format.{DiskFormat, IsReadAs}
 use Rattle.place_model.specs.Journal.{numbers_on}
-use Rattle.replay.specs.Writes.{IsOfPlacing}
+use Rattle.place_model.specs.RecoveryWrites.{IsOfPlacing}
 
 -- The journal is at rest: writing goes on in one of its sections.
 pub record IsRestingJournal (g : Geometry) (image : Image) : Type 0 where
@@ -39,15 +36,3 @@ pub record IsInPlaceAlready (g : Geometry) (image : Image) : Type 0 where
 pub record IsRecoveredAlready (g : Geometry) (image : Image) : Type 0 where
   pub rests : IsRestingJournal g image
   pub in_place : IsInPlaceAlready g image
-
--- Every sector of the journal bears one commit number, so that all its sections count, and no entry of them is used.
-pub record IsEmptyJournal (g : Geometry) (image : Image) : Type 0 where
-  pub number : ℕ
-  pub low : number < 4
-  pub one : (section : ℕ) → section < g.sections → IsWholly (section_sectors g.shape) (numbers_on g image) number section
-  pub unused : replayed_entries g image ≡ []
-
--- The image can be read, in this format, and its journal is empty.
-pub record HasEmptyJournal (d : DiskFormat) (image : Image) : Type 0 where
-  pub reads : IsReadAs d image
-  pub empty : IsEmptyJournal d.geometry image

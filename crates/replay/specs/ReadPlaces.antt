@@ -4,7 +4,7 @@ use Rattle.disk_model.specs.Disk.{Content, Reads, last_image, sector_in}
 use Rattle.disk_model.specs.Moments.{HasNow}
 use Rattle.image_model.specs.Geometry.{Geometry, data_at}
 use Rattle.image_model.specs.Sectors.{bytes_at}
-use Rattle.tag_store.specs.Store.{HoldsTag}
+use Rattle.place_model.specs.Tags.{HoldsTag}
 
 -- Sectors of a disk in a row that were read, from the first one on. Those below `behind` may have been written since.
 pub record ReadPlaces : Type 0 where

@@ -1,42 +1,26 @@
 -- Which sectors a recovery writes, and with which bytes.
 -- Source: Linux, drivers/md/dm-integrity.c, do_journal_write and init_journal.
-use Rattle.std.specs.Prelude.{◌≡◌, ◌⊎◌, ℕ, ◌+◌, ◌/◌, ◌<◌, true, Ok, List}
+use Rattle.std.specs.Prelude.{◌≡◌, ◌⊎◌, ℕ, ◌+◌, ◌<◌, true, Ok, List}
 use Rattle.std.specs.List.{Contains}
 use Rattle.disk_model.specs.Disk.{Content, Image, IsOfRun, OnlyAdds, last_image, newest_only}
 use Rattle.disk_model.specs.Moments.{EachSince, HasNow}
 use Rattle.image_model.specs.Cells.{replayed_entries}
-use Rattle.image_model.specs.Geometry.{Geometry, data_at, section_at}
+use Rattle.image_model.specs.Geometry.{Geometry, section_at}
 use Rattle.image_model.specs.Grid.{blank_bound, is_zero_sector, walk_of}
 use Rattle.image_model.specs.Scan.{SectorCell}
-use Rattle.image_model.specs.Section.{Entry}
 use Rattle.image_model.specs.declared.journal_plan.Plan.{Plan}
 use Rattle.image_model.specs.declared.journal_plan.State.TheVariants.{Blank}
 use Rattle.buffer_cache.specs.Cached.{HasNoMark}
-use Rattle.journal_erasure.specs.EmptySections.{AreEmptySections}
+use Rattle.image_model.specs.EmptySections.{AreEmptySections}
 use Rattle.journal_erasure.specs.Filling.{IsOfLacking}
 use Rattle.journal_reading.specs.declared.reading.JudgedJournal.{JudgedJournal}
 use Rattle.journal_reading.specs.Journal.{journal_image}
-use Rattle.tag_store.specs.Store.{HoldsTag, Store}
+use Rattle.tag_store.specs.Store.{Store}
+use Rattle.place_model.specs.Tags.{HoldsTag}
+use Rattle.place_model.specs.RecoveryWrites.{IsOfPlacing, IsOfRecovery}
 use Rattle.replay.specs.Replaying.{entries_on}
 
--- The bytes are those of one of these entries, in the place of its block.
-pub record IsOfEntry (g : Geometry) (Among : Entry → Type 0) (sector : ℕ) (x : List ℕ) : Type 0 where
-  pub entry : Entry
-  pub among : Among entry
-  pub in_place : IsOfRun (data_at g (entry.sector / g.shape.spb)) entry.bytes sector x
-
--- They are so, or the sector is one of tags.
-abbrev pub IsOfPlacing : Geometry → (Entry → Type 0) → ℕ → List ℕ → Type 0
-IsOfPlacing g Among sector x = IsOfEntry g Among sector x ⊎ HoldsTag g sector
-
--- They are those of a journal of empty sections, all of one commit number.
-pub record IsOfEmptyJournal (g : Geometry) (sector : ℕ) (x : List ℕ) : Type 0 where
-  pub number : ℕ
-  pub bytes : List ℕ
-  pub empty : AreEmptySections g number bytes
-  pub in_place : IsOfRun (section_at g 0) bytes sector x
-
--- They are those of an empty sector of this number, in a sector of the journal whose cell does not have it.
+-- The bytes are those of an empty sector of this number, in a sector of the journal whose cell does not have it.
 pub record IsOfUnnumbered (g : Geometry) (cells : List SectorCell) (number sector : ℕ) (x : List ℕ) : Type 0 where
   pub bytes : List ℕ
   pub empty : AreEmptySections g number bytes
@@ -49,10 +33,6 @@ pub record IsOfBlankSector (g : Geometry) (number : ℕ) (image : Image) (sector
   pub bytes : List ℕ
   pub empty : AreEmptySections g number bytes
   pub in_place : IsOfRun (section_at g 0) bytes sector x
-
--- They come by a recovery of these entries.
-abbrev pub IsOfRecovery : Geometry → List Entry → ℕ → List ℕ → Type 0
-IsOfRecovery g entries sector x = IsOfPlacing g (Contains entries) sector x ⊎ IsOfEmptyJournal g sector x
 
 -- Each content since the start is the one there with nothing pending: the disk was synced at most.
 abbrev pub OnlySyncs : (before after : List Content) → Type 0

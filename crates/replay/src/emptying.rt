@@ -8,7 +8,7 @@ ghost use Rattle.tag_store.specs.Store.{IsStore};
 ghost use Rattle.replay.specs.Calls.{LeavesCutsOf, LeavesOn};
 ghost use Rattle.replay.specs.Recovery.{GoesOnIn, IsAtRestOn};
 ghost use Rattle.replay.specs.Replaying.{HasScratch};
-ghost use Rattle.replay.specs.Writes.{IsOfEmptyJournal};
+ghost use Rattle.place_model.specs.RecoveryWrites.{IsOfEmptyJournal};
 
 use crate::finishing::erase_journal;
 use crate::recovered::Recovered;

@@ -8,7 +8,8 @@ ghost use Rattle.tag_store.specs.Store.{IsStore};
 ghost use Rattle.replay.specs.Calls.{LeavesCutsOfEach, LeavesEach};
 ghost use Rattle.replay.specs.Recovery.{GoesOnIn, IsReplayed};
 ghost use Rattle.replay.specs.Replaying.{IsReplaying};
-ghost use Rattle.replay.specs.Writes.{IsOfEmptyJournal, IsOfUnnumbered};
+ghost use Rattle.replay.specs.Writes.{IsOfUnnumbered};
+ghost use Rattle.place_model.specs.RecoveryWrites.{IsOfEmptyJournal};
 
 use crate::recovered::Recovered;
 use image_model::COMMIT_NUMBERS;

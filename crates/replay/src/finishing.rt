@@ -12,7 +12,8 @@ ghost use Rattle.place_model.specs.Opened.{next_by};
 ghost use Rattle.replay.specs.Calls.{LeavesCutsOfEach, LeavesEach, LeavesErased, LeavesReplayed};
 ghost use Rattle.replay.specs.Recovery.{GoesOnIn, IsReplayed};
 ghost use Rattle.replay.specs.Replaying.{HasScratch, IsReplaying};
-ghost use Rattle.replay.specs.Writes.{IsOfEmptyJournal, IsOfUnnumbered};
+ghost use Rattle.replay.specs.Writes.{IsOfUnnumbered};
+ghost use Rattle.place_model.specs.RecoveryWrites.{IsOfEmptyJournal};
 
 use crate::filling::fill_journal;
 use crate::recovered::Recovered;

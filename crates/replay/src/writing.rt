@@ -7,11 +7,12 @@ ghost use Rattle.image_model.specs.Geometry.{data_at};
 ghost use Rattle.direct_laws.specs.CallLaws.{KeepsOthersNow};
 ghost use Rattle.journal_reading.specs.Entries.{entry_with};
 ghost use Rattle.place_writer.specs.DirectModeCells.{IsBlock, IsTaggedBlock};
-ghost use Rattle.tag_store.specs.Store.{HoldsTag, IsStore};
+ghost use Rattle.tag_store.specs.Store.{IsStore};
+ghost use Rattle.place_model.specs.Tags.{HoldsTag};
 ghost use Rattle.replay.specs.Placing.{HasLastCell, IsStillWithData, IsStillWithEntry, IsStillWithTag, PlacesData, PlacesEntry, PlacesTag, StandsAmid};
 ghost use Rattle.replay.specs.ReadPlaces.{ShowsPlaces};
 ghost use Rattle.replay.specs.Replaying.{KeepsStoreOn, last_cell};
-ghost use Rattle.replay.specs.Writes.{IsOfPlacing};
+ghost use Rattle.place_model.specs.RecoveryWrites.{IsOfPlacing};
 
 use crate::place_run::PlaceRun;
 use hmac_tag::Tag;

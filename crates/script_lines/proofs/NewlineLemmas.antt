@@ -2,8 +2,7 @@
 use Rattle.std.proofs.Common.{◌≡◌, ◌≢◌, ℕ, suc, ◌+◌, ◌≤◌, ◌==◌, Bool, true, false, if◌then◌else◌, ne_eqb, List, [], ◌∷◌}
 use Rattle.std.proofs.Common.{◌++◌, length, refl, ap, arith}
 use Rattle.std.proofs.lemmas.List.Elements.{All-head, All-tail}
-use Rattle.script_reader.specs.Reading.{HasNoNewline}
-use Rattle.script_lines.specs.Taken.{newlines_in}
+use Rattle.device_model.specs.ScriptBytes.{HasNoNewline, newlines_in}
 
 pub newlines_in-append : (one other : List ℕ) → newlines_in (one ++ other) ≡ newlines_in one + newlines_in other
 newlines_in-append [] other = omega arith

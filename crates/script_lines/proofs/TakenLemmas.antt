@@ -3,7 +3,8 @@ use Rattle.std.proofs.Common.{◌≡◌, ℕ, ◌+◌, ◌≤◌, List, [], ◌+
 use Rattle.std.proofs.Common.{Option, Some, None}
 use Rattle.std.specs.Option.{ForSome, IsSomeAnd}
 use Rattle.script_reader.specs.Reading.{Reading, TakesLine}
-use Rattle.script_lines.specs.Taken.{HasRead, most_taken, read_by}
+use Rattle.script_lines.specs.Taken.{HasRead, read_by}
+use Rattle.device_model.specs.ScriptBytes.{most_taken}
 
 -- What follows, of a value that is there.
 pub and_weaker : {X : Type 0} (P Q : X → Type 0) (o : Option X) → ((x : X) → P x → Q x) → IsSomeAnd o P

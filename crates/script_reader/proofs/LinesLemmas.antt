@@ -9,8 +9,7 @@ use Rattle.std.specs.List.{All}
 use Rattle.std.proofs.lemmas.List.Elements.{All-weaker, All-nil, All-cons, All-append}
 use Rattle.std.proofs.lemmas.List.Splits.{slice_split_none, slice_split_at, length-slice_split}
 use Rattle.device_model.specs.Grammar.{most_line}
-use Rattle.device_model.specs.ScriptBytes.{most_script, parts_of, ended_parts, open_part, open_line, is_too_long, lines_of}
-use Rattle.script_reader.specs.Reading.{HasNoNewline}
+use Rattle.device_model.specs.ScriptBytes.{most_script, parts_of, ended_parts, open_part, open_line, is_too_long, lines_of, HasNoNewline}
 use Rattle.script_reader.specs.Lines.{lines_left}
 
 -- ---- parts

@@ -5,8 +5,8 @@ use Rattle.std.specs.List.{Contains}
 use Rattle.std.proofs.Math.Seq.{take-append_seam}
 use Rattle.std.proofs.lemmas.List.Elements.{All-append, Contains-append_cases}
 use Rattle.device_model.specs.Grammar.{most_line}
-use Rattle.device_model.specs.ScriptBytes.{most_script}
-use Rattle.script_reader.specs.Reading.{Reading, IsWithin, IsSettled, TakesLine, HasNoNewline, BeginsLine}
+use Rattle.device_model.specs.ScriptBytes.{most_script, HasNoNewline}
+use Rattle.script_reader.specs.Reading.{Reading, IsWithin, IsSettled, TakesLine, BeginsLine}
 use Rattle.script_reader.specs.Lines.{lines_left, FindsWholeLine, FindsLongLine, FindsLongScript, FindsLine}
 use Rattle.script_reader.specs.Run.{TakesRun, EndsRun}
 use Rattle.script_reader.specs.declared.next_line.NextLine.{NextLine}

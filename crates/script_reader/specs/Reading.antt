@@ -1,19 +1,15 @@
 -- What a contract sees of a `LineReader`, and the bounds that it keeps.
 -- Own: how many bytes are read at a time.
-use Rattle.std.specs.Prelude.{◌≡◌, ◌≢◌, ◌⊎◌, ℕ, ◌+◌, ◌<◌, ◌≤◌, List, ◌++◌, length}
-use Rattle.std.specs.List.{All, Contains}
+use Rattle.std.specs.Prelude.{◌≡◌, ◌⊎◌, ℕ, ◌+◌, ◌<◌, ◌≤◌, List, ◌++◌, length}
+use Rattle.std.specs.List.{Contains}
 use Rattle.device_model.specs.Grammar.{most_line}
-use Rattle.device_model.specs.ScriptBytes.{most_script}
+use Rattle.device_model.specs.ScriptBytes.{most_script, HasNoNewline, most_piece}
 
 -- A reader of lines: the bytes that it has read and not taken, its line, and how many bytes it took so far.
 pub record Reading : Type 0 where
   pub unread : List ℕ
   pub line : List ℕ
   pub taken : ℕ
-
--- At most so many bytes are read at a time.
-abbrev pub most_piece : ℕ
-most_piece = 65536
 
 -- It took no byte beyond the bound of a script, and has read one at most. It reads one piece ahead at most.
 pub record IsWithin (reading : Reading) : Type 0 where
@@ -26,10 +22,6 @@ abbrev pub IsSettled : Reading → Type 0
 IsSettled reading = Contains reading.unread 10 ⊎ (most_script < reading.taken + length reading.unread)
 
 -- ---- what a call takes of the bytes that are to come: `before` when it begins, and `after` when it has ended
-
--- No byte of it is a newline.
-abbrev pub HasNoNewline : List ℕ → Type 0
-HasNoNewline bytes = All (λ byte. byte ≢ 10) bytes
 
 -- It took the bytes of its line alone, and the line does not end in them.
 pub record BeginsLine (old new : Reading) (before after : List ℕ) : Type 0 where

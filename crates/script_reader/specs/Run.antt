@@ -1,8 +1,8 @@
 -- One run of a reader's unread bytes.
 use Rattle.std.specs.Prelude.{◌≡◌, ℕ, ◌+◌, ◌<◌, ◌≤◌, List, [], ◌∷◌, ◌++◌, length, Option, None, Some}
 use Rattle.device_model.specs.Grammar.{most_line}
-use Rattle.device_model.specs.ScriptBytes.{most_script}
-use Rattle.script_reader.specs.Reading.{Reading, HasNoNewline}
+use Rattle.device_model.specs.ScriptBytes.{most_script, HasNoNewline}
+use Rattle.script_reader.specs.Reading.{Reading}
 use Rattle.script_reader.specs.declared.next_line.NextLine.{NextLine}
 use Rattle.script_reader.specs.declared.next_line.NextLine.TheVariants.{Line, End, LongLine, LongScript}
 

@@ -5,7 +5,7 @@
 ghost use Rattle.std.specs.Prelude.{◌≡◌, ◌≢◌, ◌+◌, ◌<◌, ◌≤◌, ℕ, List, [], ◌∷◌, ◌++◌, length, take, drop, slice_index, IsTrue, ◌↔◌, IfOk, OnOk, OnErr, IfSome, IfNone};
 ghost use Rattle.std.specs.Option.{ForSome, IsSomeAnd};
 ghost use Rattle.disk_model.specs.Causes.{HasCause};
-ghost use Rattle.script_reader.specs.Reading.{HasNoNewline};
+ghost use Rattle.device_model.specs.ScriptBytes.{HasNoNewline};
 
 use crate::NextLine;
 use crate::piece::{PIECE, Piece};

@@ -8,7 +8,7 @@ use std::alloc::Global;
 use std::marker::Model;
 use stream_io::Source;
 
-/// How many bytes of a source are read at a time, at most: `most_piece` of `specs/Reading.antt`.
+/// How many bytes of a source are read at a time, at most: `most_piece` of `device_model`, `specs/ScriptBytes.antt`.
 pub const PIECE: usize = 65_536;
 
 /// The bytes of one read that are not taken yet. All its memory is taken when it is made.
@@ -21,7 +21,7 @@ pub struct Piece {
 
 impl Model for Piece {
     ghost use Rattle.std.specs.Prelude.{◌≡◌, ◌≤◌, ℕ, List, length, take, drop};
-    ghost use Rattle.script_reader.specs.Reading.{most_piece};
+    ghost use Rattle.device_model.specs.ScriptBytes.{most_piece};
 
     ghost Value = { List ℕ };
 
@@ -32,7 +32,7 @@ impl Model for Piece {
 }
 
 impl Piece {
-    ghost use Rattle.script_reader.specs.Reading.{most_piece};
+    ghost use Rattle.device_model.specs.ScriptBytes.{most_piece};
 
     /// No byte is read yet.
     ///

@@ -1,4 +1,4 @@
-//! One line of a script, run on a device in direct or journal mode, and what it tells.
+//! One line of a script, run on a device in any mode, and what it tells.
 //!
 //! A contract says of the device which one of `device_model` it is, and what the line does to that one
 //! (`specs/LineRun.antt`, the file to read first). A line is judged before anything is done; its text is told once

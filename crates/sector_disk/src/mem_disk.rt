@@ -109,16 +109,18 @@ impl MemDisk {
     pub fn fail_at(&mut self, calls: &[u64])
         requires { length calls.now ≤ MOST_FAILING }
 
-        ensures { record_of self.new ≡ record (record_of self.old) {
+        ensures planned { record_of self.new ≡ record (record_of self.old) {
           plan = record (record_of self.old).plan { failing = record { items = calls.now } };
         } }
+        ensures unread { self.new.reads ≡ self.old.reads }
     {
         self.plan.fail_at(calls);
     }
 
     /// Sets a stop after so many further sector writes. From the stop on every call fails, with 0 at once.
     pub fn stop_after(&mut self, writes: u64)
-        ensures { record_of self.new ≡ record (record_of self.old) { stop = Some writes } }
+        ensures set { record_of self.new ≡ record (record_of self.old) { stop = Some writes } }
+        ensures unread { self.new.reads ≡ self.old.reads }
     {
         self.stop = Some(writes);
     }

@@ -8,14 +8,14 @@ use Rattle.disk_model.specs.Moments.{content_now}
 use Rattle.image_model.specs.Cells.{placed_cells_of}
 use Rattle.image_model.specs.Geometry.{Geometry, IsGeometry, tag_at, tag_offset}
 use Rattle.image_model.proofs.GeometryLemmas.{tag_at-inside, data_at-inside}
-use Rattle.place_model.specs.Tags.{IsOfTags, tag_byte_at, with_block_tag}
+use Rattle.place_model.specs.Tags.{IsOfTags, tag_byte_at, with_block_tag, HoldsTag}
 use Rattle.place_model.proofs.PlacedLemmas.{placed_tag-byte}
 use Rattle.buffer_cache.specs.declared.held.Held.{Held}
 use Rattle.buffer_cache.specs.Cached.{held_or, with_given_piece}
 use Rattle.buffer_cache.specs.HeldSectors.{held_in}
 use Rattle.buffer_cache.proofs.CachedLemmas.{IsOfDisk-elsewhere, IsOfDisk-none, changed_now}
 use Rattle.tag_store.specs.Spans.{IsInSpan, IsSpan}
-use Rattle.tag_store.specs.Store.{HoldsTag, IsFirstOfTag, IsMarkedTags, Store, given, given_tags, tags_in, with_tag}
+use Rattle.tag_store.specs.Store.{IsFirstOfTag, IsMarkedTags, Store, given, given_tags, tags_in, with_tag}
 use Rattle.tag_store.specs.StoreLaws.{AreWhole, DirectLaw, ElsewhereLaw, FreshLaw, KeepsOthersLaw, MarkedLaw, OtherRegionsLaw, OthersLaw, PutLaw, ReadsTagsLaw, RestLaw, SameTagsLaw, SyncedLaw}
 use Rattle.tag_store.proofs.PutLemmas.{with_span-other, with_tag-byte, with_tag-length, with_tag-rest}
 use Rattle.tag_store.proofs.SpansLemmas.{first_in_span, next_in_span, with_given_piece-none, with_given_piece-other}

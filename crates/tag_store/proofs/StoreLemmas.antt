@@ -11,7 +11,7 @@ use Rattle.disk_model.proofs.MomentsLemmas.{EachMoment-weaker, FromStart-weaker,
 use Rattle.image_model.specs.Cells.{placed_cells_of}
 use Rattle.image_model.specs.Geometry.{Geometry, IsGeometry, tag_at, data_at}
 use Rattle.image_model.proofs.GeometryLemmas.{tag_at-inside, data_at-inside}
-use Rattle.place_model.specs.Tags.{tag_byte_at}
+use Rattle.place_model.specs.Tags.{tag_byte_at, HoldsTag}
 use Rattle.place_model.proofs.PlacedLemmas.{placed_tag, placed_tag-byte, placed_tag-length}
 use Rattle.place_model.proofs.TagsLemmas.{tag_byte-no_data}
 use Rattle.buffer_cache.specs.declared.held.Held.{Held}
@@ -20,7 +20,7 @@ use Rattle.buffer_cache.specs.Cached.{IsMarkedSector, IsOfDisk, held_or}
 use Rattle.buffer_cache.specs.HeldSectors.{held_in}
 use Rattle.buffer_cache.proofs.CachedLemmas.{IsOfDisk-elsewhere, told_at_end}
 use Rattle.tag_store.specs.Spans.{HoldsSpan, IsFirstOfTwo, IsInSpan, IsOfSpan, IsOutForSpan, IsSpan, span_of}
-use Rattle.tag_store.specs.Store.{HoldsTag, IsMarkedTags, IsOfPut, IsOutForTag, IsStore, KeepsTags, Store, given, tags_in}
+use Rattle.tag_store.specs.Store.{IsMarkedTags, IsOfPut, IsOutForTag, IsStore, KeepsTags, Store, given, tags_in}
 
 -- ---- where a tag stands
 

@@ -5,7 +5,7 @@ use Rattle.disk_model.specs.Identity.{DiskIdentity, IsBound}
 use Rattle.disk_model.specs.Moments.{HasNow}
 use Rattle.image_model.specs.Cells.{placed_cells_of}
 use Rattle.image_model.specs.Geometry.{Geometry, IsGeometry, tag_at}
-use Rattle.place_model.specs.Tags.{tag_byte_at}
+use Rattle.place_model.specs.Tags.{HoldsTag}
 use Rattle.buffer_cache.specs.declared.held.Held.{Held}
 use Rattle.buffer_cache.specs.declared.held.HeldSectors.{HeldSectors}
 use Rattle.buffer_cache.specs.Cached.{IsMarkedSector, IsOfDisk, Keeps, cached, is_marked}
@@ -28,14 +28,6 @@ tags_in g image b = (placed_cells_of g image b).tag
 -- The tag that the store gives of each block.
 abbrev pub given_tags : Store → Content → ℕ → List ℕ
 given_tags store content = tags_in store.geometry (given store content)
-
--- A byte of the tag of some block stands in the sector.
-pub record HoldsTag (g : Geometry) (sector : ℕ) : Type 0 where
-  pub block : ℕ
-  pub byte : ℕ
-  pub block_low : block < g.blocks
-  pub byte_low : byte < g.shape.tag_size
-  pub is : sector ≡ (tag_byte_at g block byte).sector
 
 -- The store is of this disk, which is bound: its places lie on it, and what is held are sectors of tags, as the disk
 -- has them where they are not marked.

@@ -4,9 +4,9 @@ use Rattle.disk_model.specs.Disk.{Content, Image, last_image, newest_only}
 use Rattle.disk_model.specs.Identity.{DiskIdentity, IsBound}
 use Rattle.disk_model.specs.Moments.{IsChangedBy, content_now}
 use Rattle.image_model.specs.Geometry.{Geometry, IsGeometry, byte_place}
-use Rattle.place_model.specs.Tags.{IsOfTags, KeepsOthers, ReadsTags, tag_byte_at, with_block_tag}
+use Rattle.place_model.specs.Tags.{IsOfTags, KeepsOthers, ReadsTags, tag_byte_at, with_block_tag, HoldsTag}
 use Rattle.buffer_cache.specs.HeldSectors.{no_sectors}
-use Rattle.tag_store.specs.Store.{HoldsTag, IsOfPut, IsMarkedTags, IsStore, Store, given, given_tags, tags_in, with_tag}
+use Rattle.tag_store.specs.Store.{IsOfPut, IsMarkedTags, IsStore, Store, given, given_tags, tags_in, with_tag}
 
 -- Each sector of a disk of so many has 512 bytes.
 abbrev pub AreWhole : ℕ → Image → Type 0

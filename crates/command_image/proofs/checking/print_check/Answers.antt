@@ -12,7 +12,7 @@ use Rattle.image_format.specs.declared.reading.ImageFormat.{ImageFormat}
 use Rattle.command_ending.specs.Ended.{ending_of}
 use Rattle.command_ending.specs.declared.ended.Ended.{Ended}
 use Rattle.command_image.specs.Listing.{IsListed, IsPrintedShort, lines_in}
-use Rattle.command_task.specs.Checking.{check_outset}
+use Rattle.command_model.specs.Checking.{check_outset}
 use Rattle.command_task.specs.Opening.{HasRunOn}
 use Rattle.command_image.proofs.CheckingLemmas.{check_cut, check_untold, check_whole, counts_told, not_checked, unchecked}
 use Rattle.command_image.proofs.checking.print_check.Goals as goal

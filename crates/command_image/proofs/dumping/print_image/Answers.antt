@@ -5,7 +5,7 @@ use Rattle.command_ending.specs.Ended.{ending_of}
 use Rattle.command_ending.specs.declared.ended.Ended.{Ended}
 use Rattle.disk_model.specs.Disk.{last_image}
 use Rattle.run_model.specs.Ending.{NoMemory}
-use Rattle.command_task.specs.Dumping.{dump_outset}
+use Rattle.command_model.specs.Dumping.{dump_outset}
 use Rattle.command_task.specs.Opening.{HasRunOn}
 use Rattle.command_image.proofs.PrintingLemmas.{not_shown, printed, printed_part, unshown}
 use Rattle.command_image.proofs.dumping.print_image.Goals as goal

@@ -10,8 +10,8 @@ use Rattle.direct_mode.proofs.StoreCalls.{reads_whole}
 use Rattle.command_ending.specs.Ended.{ending_of}
 use Rattle.command_ending.specs.declared.ended.Ended.{Ended}
 use Rattle.command_image.specs.Exercised.{HasJournalToOpen, IsExercisedTo}
-use Rattle.command_task.specs.Exercising.{exercise_outset}
-use Rattle.command_task.specs.Making.{IsMadeInOrder}
+use Rattle.command_model.specs.Exercising.{exercise_outset}
+use Rattle.command_model.specs.Making.{IsMadeInOrder}
 use Rattle.command_task.specs.Opening.{HasRunOn}
 use Rattle.command_image.proofs.ExercisingLemmas.{exercise_whole, not_made_for, ok_each, unmade_moments}
 use Rattle.command_image.proofs.exercising.exercise_image.Goals as goal

@@ -3,9 +3,9 @@ use Rattle.disk_model.specs.Disk.{last_image}
 use Rattle.hmac_tag.specs.TagMaker.{key_of}
 use Rattle.command_ending.specs.Ended.{ending_of}
 use Rattle.command_ending.specs.declared.ended.Ended.{Ended}
-use Rattle.command_task.specs.Making.{IsMadeInOrder, format_outset}
+use Rattle.command_model.specs.Making.{IsMadeInOrder, format_outset}
 use Rattle.command_task.specs.Opening.{HasRunOn}
-use Rattle.command_task.specs.Outset.{geometry_on}
+use Rattle.command_model.specs.Outset.{geometry_on}
 use Rattle.command_image.proofs.MakingLemmas.{made, made_through, made_untold, not_made}
 use Rattle.command_image.proofs.making.make_image.Goals as goal
 

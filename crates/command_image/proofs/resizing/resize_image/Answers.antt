@@ -4,8 +4,8 @@ use Rattle.hmac_tag.specs.TagMaker.{key_of}
 use Rattle.command_ending.specs.Ended.{ending_of}
 use Rattle.command_ending.specs.declared.ended.Ended.{Ended}
 use Rattle.command_task.specs.Opening.{HasRunOn}
-use Rattle.command_task.specs.Outset.{geometry_on}
-use Rattle.command_task.specs.Resizing.{resizing_outset}
+use Rattle.command_model.specs.Outset.{geometry_on}
+use Rattle.command_model.specs.Resizing.{resizing_outset}
 use Rattle.command_image.proofs.ResizingLemmas.{IsResizing, in_order, moments, not_resized, refused_as, told_resized, unrefused, untold_resized}
 use Rattle.command_image.proofs.resizing.resize_image.Goals as goal
 

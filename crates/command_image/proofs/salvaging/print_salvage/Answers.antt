@@ -1,7 +1,7 @@
 use Rattle.std.proofs.Common.{rules}
 use Rattle.disk_model.specs.Disk.{last_image}
 use Rattle.hmac_tag.specs.TagMaker.{key_of}
-use Rattle.command_task.specs.Salvaging.{salvage_outset}
+use Rattle.command_model.specs.Salvaging.{salvage_outset}
 use Rattle.command_task.specs.Running.{ending_by}
 use Rattle.command_image.proofs.SalvagingLemmas.{ran_back}
 use Rattle.command_image.proofs.salvaging.print_salvage.Goals as goal

@@ -6,7 +6,7 @@ use Rattle.hmac_tag.specs.TagMaker.{key_of}
 use Rattle.image_refusal.specs.declared.open_fault.OpenFault.TheVariants.{Head}
 use Rattle.image_refusal.specs.Calls.{with_cause}
 use Rattle.salvage_model.specs.Salvaging.{has_bad, salvage_texts}
-use Rattle.command_task.specs.Salvaging.{salvage_outset}
+use Rattle.command_model.specs.Salvaging.{salvage_outset}
 use Rattle.image_salvage.specs.Salvaged.{salvaged_format}
 use Rattle.place_model.specs.Format.{DiskFormat, format_on}
 use Rattle.command_ending.specs.Ended.{ending_of}

@@ -9,7 +9,7 @@ use Rattle.device.specs.Telling.{has_room_in}
 use Rattle.journal_device.specs.Telling.{TellsOf}
 use Rattle.device_parts.specs.Answers.{ServesNext}
 use Rattle.image_model.specs.Geometry.{Geometry}
-use Rattle.direct_mode.specs.Places.{IsOfPlaces}
+use Rattle.place_model.specs.Places.{IsOfPlaces}
 use Rattle.request_slots.specs.Flight.{turn_of}
 use Rattle.direct_device.specs.Answers.{IsWrittenNext}
 use Rattle.direct_device.specs.Device.{in_direct, kept as direct_kept}

@@ -5,10 +5,11 @@ use Rattle.device_model.specs.Mode as Model
 use Rattle.hmac_tag.specs.TagMaker.{key_of}
 use Rattle.judging_model.specs.Faults.{fault_by_format, fault_of}
 use Rattle.direct_device.specs.declared.parts.DirectParts.{DirectParts}
-use Rattle.device_opening.specs.DirectOpening.{KeepsEmpty}
-use Rattle.device_opening.specs.JournalMaking.{IsOfMadeJournal}
+use Rattle.place_model.specs.EmptyJournal.{KeepsEmpty}
+use Rattle.change_model.specs.OpeningWrites.{IsOfMadeJournal}
 use Rattle.device_opening.specs.Judged.{HasBitmapFormat, HasJournalFormat}
-use Rattle.device_opening.specs.Opening.{IsOfOpening, LeavesOpenable}
+use Rattle.device_opening.specs.Opening.{LeavesOpenable}
+use Rattle.place_model.specs.RecoveryWrites.{IsOfOpening}
 use Rattle.device_opening.proofs.JudgedLemmas.{shift}
 use Rattle.device_opening.proofs.JournalMakingLemmas.{found_writes_direct, made_writes_direct}
 use Rattle.device_opening.proofs.RefusedLemmas.{head_refuses}

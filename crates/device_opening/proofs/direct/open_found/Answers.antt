@@ -9,7 +9,8 @@ use Rattle.image_format.specs.declared.reading.ImageFormat.{ImageFormat}
 use Rattle.judging_model.specs.Faults.{fault_of}
 use Rattle.direct_device.specs.declared.parts.DirectParts.{DirectParts}
 use Rattle.device_opening.specs.declared.judging.JudgedImage.{JudgedImage}
-use Rattle.device_opening.specs.DirectOpening.{HasOpenOn, KeepsEmpty}
+use Rattle.device_opening.specs.DirectOpening.{HasOpenOn}
+use Rattle.place_model.specs.EmptyJournal.{KeepsEmpty}
 use Rattle.device_opening.specs.Judged.{HasJudged, judged_format}
 use Rattle.device_opening.specs.Opening.{IsUnasked, WritesRecovery}
 use Rattle.device_opening.proofs.DirectLemmas.{has_opened, leaves_empty, opening_left}

@@ -3,7 +3,7 @@ use Rattle.disk_model.specs.Disk.{OnlyAdds, last_image}
 use Rattle.disk_model.specs.Moments.{EachSince}
 use Rattle.image_model.specs.Geometry.{Geometry, journal_sectors}
 use Rattle.replay.specs.Recovery.{GoesOnIn}
-use Rattle.replay.specs.Writes.{IsOfEmptyJournal}
+use Rattle.place_model.specs.RecoveryWrites.{IsOfEmptyJournal}
 use Rattle.disk_model.proofs.MomentsLemmas.{EachMoment-then}
 use Rattle.device_opening.specs.Judged.{judged_format}
 use Rattle.journal_model.specs.Opening.{opened_disk}

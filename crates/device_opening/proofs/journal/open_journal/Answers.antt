@@ -5,9 +5,10 @@ use Rattle.device_model.specs.Mode as Model
 use Rattle.hmac_tag.specs.TagMaker.{key_of}
 use Rattle.judging_model.specs.Faults.{fault_by_format, fault_of}
 use Rattle.journal_device.specs.declared.parts.JournalParts.{JournalParts}
-use Rattle.device_opening.specs.JournalMaking.{IsOfMadeJournal}
+use Rattle.change_model.specs.OpeningWrites.{IsOfMadeJournal}
 use Rattle.device_opening.specs.Judged.{HasBitmapFormat, HasJournalFormat}
-use Rattle.device_opening.specs.Opening.{IsOfOpening, KeepsRecovered, LeavesOpenable}
+use Rattle.device_opening.specs.Opening.{KeepsRecovered, LeavesOpenable}
+use Rattle.place_model.specs.RecoveryWrites.{IsOfOpening}
 use Rattle.device_opening.proofs.JudgedLemmas.{shift}
 use Rattle.device_opening.proofs.JournalMakingLemmas.{found_closed, found_writes, made_closed, made_writes}
 use Rattle.device_opening.proofs.RefusedLemmas.{head_refuses}

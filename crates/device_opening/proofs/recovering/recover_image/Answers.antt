@@ -5,7 +5,7 @@ use Rattle.disk_model.proofs.MomentsLemmas.{EachMoment-then}
 use Rattle.image_model.specs.Cells.{replayed_entries}
 use Rattle.buffer_cache.specs.declared.held.HeldSectors.{HeldSectors}
 use Rattle.tag_store.specs.Store.{Store}
-use Rattle.journal_mode.specs.Writes.{IsOfRecovery}
+use Rattle.place_model.specs.RecoveryWrites.{IsOfRecovery}
 use Rattle.journal_reading.specs.Journal.{IsJournalOn}
 use Rattle.device_opening.specs.Judged.{judged_format}
 use Rattle.device_opening.proofs.MomentsLemmas.{now_synced, rests_then, settles_then, sync_rests, sync_settles, syncs_then, told_synced}

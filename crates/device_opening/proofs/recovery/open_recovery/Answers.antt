@@ -2,12 +2,11 @@ use Rattle.std.proofs.Common.{None, ◌∙◌, ap}
 use Rattle.std.proofs.lemmas.Result.{err_from_is_err_and}
 use Rattle.image_model.specs.Geometry.{Shape}
 use Rattle.hmac_tag.specs.TagMaker.{key_of}
-use Rattle.judging_model.specs.Faults.{fault_by}
+use Rattle.judging_model.specs.Faults.{fault_by, format_fault_of}
 use Rattle.buffer_cache.specs.declared.held.HeldSectors.{HeldSectors}
 use Rattle.tag_store.specs.Store.{Store}
 use Rattle.device_parts.specs.declared.parts.Parts.{Parts}
 use Rattle.device_opening.specs.declared.room.TheConstants.{HELD_SECTORS}
-use Rattle.device_opening.specs.RecoveryOpening.{format_fault_of}
 use Rattle.device_opening.proofs.RecoveryLemmas.{opened}
 use Rattle.device_opening.proofs.RefusedLemmas.{head_refuses, memory_refuses, open_refuses}
 use Rattle.device_opening.proofs.recovery.open_recovery.Goals as goal

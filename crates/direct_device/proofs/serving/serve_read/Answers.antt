@@ -7,7 +7,7 @@ use Rattle.disk_model.specs.Moments.{HasNow}
 use Rattle.image_model.specs.Geometry.{Geometry, data_at}
 use Rattle.device_model.specs.Progress.{FailedServe}
 use Rattle.direct_mode.specs.Cells.{IsBlock}
-use Rattle.direct_mode.specs.Places.{WritesPlaces}
+use Rattle.place_model.specs.Places.{WritesPlaces}
 use Rattle.direct_mode.proofs.PlacesLemmas.{WritesPlaces-then, read_places}
 use Rattle.direct_mode.proofs.CallLemmas.{through_law}
 use Rattle.direct_mode.proofs.ServingLemmas.{on_err_always}

@@ -4,7 +4,7 @@ use Rattle.std.proofs.lemmas.List.{take_rest}
 use Rattle.disk_model.specs.Disk.{last_image}
 use Rattle.image_model.specs.Geometry.{Shape, journal_sectors, section_entries, section_sectors}
 use Rattle.image_model.specs.Section.{Entry}
-use Rattle.journal_section.specs.Entries.{BearsNumber, HoldsEntries, IsWithin}
+use Rattle.image_model.specs.Entries.{BearsNumber, HoldsEntries, IsWithin}
 use Rattle.formatting_model.specs.Journal.{HasEmptyRests}
 use Rattle.image_model.proofs.GeometryLemmas.{section_at-lt}
 use Rattle.formatting_model.proofs.JournalLemmas.{first_open, journal_inside, no_entries, rest_size, rests_begin, rests_next, sections_some}

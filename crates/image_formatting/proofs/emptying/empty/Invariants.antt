@@ -2,7 +2,7 @@ use Rattle.std.proofs.Common.{◌≡◌, ◌+◌, ◌-◌, ◌*◌, ◌<◌, len
 use Rattle.disk_model.specs.Disk.{last_image}
 use Rattle.disk_model.specs.Moments.{EachMoment, FromStart, HasNow}
 use Rattle.image_model.specs.Geometry.{journal_sectors, section_sectors}
-use Rattle.journal_section.specs.Entries.{IsWithin}
+use Rattle.image_model.specs.Entries.{IsWithin}
 use Rattle.formatting_model.specs.Journal.{HasEmptyRests}
 use Rattle.formatting_model.specs.Runs.{ChangesOnly}
 use Rattle.image_formatting.proofs.emptying.empty.Given as goal

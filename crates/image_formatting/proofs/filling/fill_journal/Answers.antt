@@ -1,7 +1,7 @@
 use Rattle.std.proofs.Common.{◌≡◌, ◌+◌, ◌-◌, arith}
 use Rattle.std.proofs.lemmas.Result.{on_ok_weaker}
 use Rattle.image_model.specs.Geometry.{journal_sectors, section_sectors}
-use Rattle.journal_section.specs.Entries.{IsWithin}
+use Rattle.image_model.specs.Entries.{IsWithin}
 use Rattle.formatting_model.specs.Journal.{has_bitmap, regions_set}
 use Rattle.formatting_model.proofs.JournalLemmas.{journal_inside, journal_now, taken_fits}
 use Rattle.formatting_model.proofs.RunsLemmas.{changes_then, changes_wider}

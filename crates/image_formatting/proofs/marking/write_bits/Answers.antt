@@ -1,6 +1,6 @@
 use Rattle.std.proofs.Common.{rules, ◌≡◌, ℕ, ◌-◌, ◌*◌, ◌∙◌, subst, arith}
 use Rattle.disk_model.specs.Disk.{last_image}
-use Rattle.journal_section.specs.Entries.{IsWithin}
+use Rattle.image_model.specs.Entries.{IsWithin}
 use Rattle.formatting_model.specs.Bits.{HasBits}
 use Rattle.formatting_model.proofs.BitsLemmas.{bits_next, first_bits, sectors_at_once}
 use Rattle.formatting_model.proofs.RunsLemmas.{changes_then, write_changes}

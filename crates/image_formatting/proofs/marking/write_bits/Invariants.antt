@@ -1,7 +1,7 @@
 use Rattle.std.proofs.Common.{◌≡◌, ◌-◌, ◌≤◌, length}
 use Rattle.disk_model.specs.Disk.{last_image}
 use Rattle.disk_model.specs.Moments.{EachMoment, FromStart, HasNow}
-use Rattle.journal_section.specs.Entries.{IsWithin}
+use Rattle.image_model.specs.Entries.{IsWithin}
 use Rattle.formatting_model.specs.Bits.{HasBits}
 use Rattle.formatting_model.specs.Runs.{ChangesOnly}
 use Rattle.image_formatting.proofs.marking.write_bits.Given as goal

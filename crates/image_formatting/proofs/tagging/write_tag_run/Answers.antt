@@ -5,7 +5,7 @@ use Rattle.commit_id.proofs.ShapeLemmas.{shape_holds}
 use Rattle.disk_model.specs.Disk.{IsOfRun}
 use Rattle.disk_model.proofs.MomentsLemmas.{adds_told, write_adds}
 use Rattle.image_model.specs.Geometry.{quotient_up}
-use Rattle.journal_section.specs.Entries.{IsWithin}
+use Rattle.image_model.specs.Entries.{IsWithin}
 use Rattle.formatting_model.proofs.RunsLemmas.{part_of_zeros, write_changes}
 use Rattle.formatting_model.proofs.TaggingLemmas.{sectors_are, tag_run_written}
 use Rattle.formatting_model.proofs.StaysLemmas.{behind_keeps}

@@ -3,7 +3,7 @@ use Rattle.disk_model.specs.Disk.{last_image}
 use Rattle.disk_model.specs.Identity.{DiskIdentity}
 use Rattle.disk_model.specs.Moments.{HasNow}
 use Rattle.image_model.specs.Geometry.{quotient_up}
-use Rattle.journal_section.specs.Entries.{IsWithin}
+use Rattle.image_model.specs.Entries.{IsWithin}
 use Rattle.place_model.proofs.TagsLemmas.{order}
 use Rattle.formatting_model.specs.Blocks.{HasTagRun}
 use Rattle.formatting_model.proofs.RunsLemmas.{changes_then, changes_wider}

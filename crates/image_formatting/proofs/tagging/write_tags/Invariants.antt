@@ -2,7 +2,7 @@ use Rattle.std.proofs.Common.{◌≡◌, ◌⊎◌, ◌-◌, ◌*◌, ◌%◌, �
 use Rattle.disk_model.specs.Disk.{OnlyAdds, last_image}
 use Rattle.disk_model.specs.Moments.{EachMoment, FromStart, HasNow}
 use Rattle.image_model.specs.Geometry.{quotient_up}
-use Rattle.journal_section.specs.Entries.{IsWithin}
+use Rattle.image_model.specs.Entries.{IsWithin}
 use Rattle.formatting_model.specs.Blocks.{HasTagRun}
 use Rattle.formatting_model.specs.Runs.{ChangesOnly}
 use Rattle.formatting_model.specs.Stays.{IsRunByte, ReadsKeep}

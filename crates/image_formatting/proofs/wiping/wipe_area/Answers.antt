@@ -4,7 +4,7 @@ use Rattle.disk_model.specs.Disk.{Content}
 use Rattle.disk_model.specs.Identity.{DiskIdentity}
 use Rattle.image_model.specs.declared.byte_place.BytePlace.{BytePlace}
 use Rattle.image_model.specs.Geometry.{Shape}
-use Rattle.journal_section.specs.Entries.{IsWithin}
+use Rattle.image_model.specs.Entries.{IsWithin}
 use Rattle.formatting_model.specs.Blocks.{IsSectorOf}
 use Rattle.formatting_model.proofs.RunsLemmas.{changes_then}
 use Rattle.formatting_model.proofs.WipingLemmas.{area_data, area_now, area_tags, blocks_few, data_inside, tags_before_data}

@@ -1,6 +1,6 @@
 use Rattle.std.proofs.Common.{rules, ◌-◌, arith}
 use Rattle.disk_model.proofs.MomentsLemmas.{adds_then, write_adds}
-use Rattle.journal_section.specs.Entries.{IsWithin}
+use Rattle.image_model.specs.Entries.{IsWithin}
 use Rattle.formatting_model.specs.Written.{IsZeroWithin}
 use Rattle.formatting_model.proofs.RunsLemmas.{changes_then, part_of_zeros, sectors_of_zeros, write_changes, zeros_next}
 use Rattle.formatting_model.proofs.WrittenLemmas.{zero_written}

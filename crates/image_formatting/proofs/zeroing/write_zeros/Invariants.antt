@@ -1,7 +1,7 @@
 use Rattle.std.proofs.Common.{◌≡◌, ◌-◌, ◌≤◌}
 use Rattle.disk_model.specs.Disk.{OnlyAdds, last_image}
 use Rattle.disk_model.specs.Moments.{EachMoment, FromStart, HasNow}
-use Rattle.journal_section.specs.Entries.{IsWithin}
+use Rattle.image_model.specs.Entries.{IsWithin}
 use Rattle.formatting_model.specs.Runs.{ChangesOnly, HasZeros}
 use Rattle.formatting_model.specs.Written.{IsZeroWithin}
 use Rattle.image_formatting.proofs.zeroing.write_zeros.Given as goal

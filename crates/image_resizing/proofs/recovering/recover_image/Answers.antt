@@ -13,7 +13,7 @@ use Rattle.journal_reading.specs.Journal.{IsJournalOn}
 use Rattle.place_model.specs.Format.{HasCells, cells_on}
 use Rattle.replay.specs.Emptied.{KeepsResting}
 use Rattle.replay.specs.Recovery.{EntersRecovery}
-use Rattle.replay.specs.Writes.{IsOfRecovery}
+use Rattle.place_model.specs.RecoveryWrites.{IsOfRecovery}
 use Rattle.tag_store.specs.Store.{IsStore, Store, given_tags}
 use Rattle.tag_store.proofs.StoreLawsLemmas.{fresh_law}
 use Rattle.image_resizing.specs.declared.room.TheConstants.{HELD_SECTORS}

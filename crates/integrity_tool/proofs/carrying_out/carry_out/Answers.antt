@@ -10,7 +10,8 @@ use Rattle.command_ending.specs.declared.ended.Ended.{Ended}
 use Rattle.command_ending.specs.declared.ended.Ended.TheVariants as Endings
 use Rattle.command_task.specs.declared.asked.Task.{Task}
 use Rattle.command_task.specs.declared.asked.Task.TheVariants as Tasks
-use Rattle.command_task.specs.Opening.{EndsImage, HasReadIn, HasRunOn, IsMomentAt}
+use Rattle.command_task.specs.Opening.{EndsImage, HasRunOn, IsMomentAt}
+use Rattle.command_model.specs.Opening.{HasReadIn}
 use Rattle.command_task.specs.Order.{HasMomentsAt}
 use Rattle.command_task.specs.Outset.{task_outset}
 use Rattle.command_task.specs.Running.{ending_by, IsBeforeScript}

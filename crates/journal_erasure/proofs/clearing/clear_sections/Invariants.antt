@@ -1,7 +1,7 @@
 use Rattle.std.proofs.Common.{◌≡◌, ◌*◌, ◌<◌, ℕ, length}
 use Rattle.image_model.specs.Geometry.{journal_sectors}
-use Rattle.journal_ring.specs.Sections.{section_bytes}
-use Rattle.journal_erasure.specs.EmptySections.{IsEmptySection}
+use Rattle.image_model.specs.Section.{section_bytes}
+use Rattle.image_model.specs.EmptySections.{IsEmptySection}
 use Rattle.journal_erasure.proofs.clearing.clear_sections.Given as goal
 
 abbrev pub invariant-loop-i : goal.invariant-loop-i

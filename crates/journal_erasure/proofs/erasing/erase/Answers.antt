@@ -5,7 +5,7 @@ use Rattle.disk_model.specs.Moments.{content_now}
 use Rattle.disk_model.proofs.MomentsLemmas.{adds_then, adds_wider, EachMoment-then}
 use Rattle.image_model.specs.Geometry.{section_at}
 use Rattle.journal_erasure.specs.declared.part.Part.TheVariants.{Newest, Others}
-use Rattle.journal_erasure.specs.EmptySections.{AreEmptySections}
+use Rattle.image_model.specs.EmptySections.{AreEmptySections}
 use Rattle.journal_erasure.specs.Erasing.{IsOfPart}
 use Rattle.journal_erasure.proofs.ErasedLemmas.{cuts_first, cuts_last, erased_now}
 use Rattle.journal_erasure.proofs.StepsLemmas.{IsErasing-same, all_written, first_now, order_then, IsOfPart-run}

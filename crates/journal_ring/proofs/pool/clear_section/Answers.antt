@@ -1,6 +1,6 @@
 use Rattle.std.proofs.Common.{arith, sym, subst, replicate, None}
 use Rattle.commit_id.specs.Shape.{as_shape}
-use Rattle.journal_section.specs.Entries.{BearsNumber, HoldsEntries}
+use Rattle.image_model.specs.Entries.{BearsNumber, HoldsEntries}
 use Rattle.journal_ring.proofs.SectionsLemmas.{section-put}
 use Rattle.journal_ring.proofs.pool.clear_section.Goals as goal
 

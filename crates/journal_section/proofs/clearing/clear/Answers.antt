@@ -2,7 +2,7 @@ use Rattle.std.proofs.Common.{◌+◌, ◌≤◌, length, replicate, Option, Non
 use Rattle.commit_id.specs.Shape.{as_shape}
 use Rattle.commit_id.proofs.ShapeLemmas.{shape_holds}
 use Rattle.image_model.specs.Section.{Entry, entry_from}
-use Rattle.journal_section.specs.Entries.{HoldsEntries}
+use Rattle.image_model.specs.Entries.{HoldsEntries}
 use Rattle.journal_section.specs.Pieces.{with_piece}
 use Rattle.journal_section.proofs.EntriesLemmas.{HoldsEntries-none, number_in-ones, ones_more, zeros_stay}
 use Rattle.journal_section.proofs.clearing.clear.Goals as goal

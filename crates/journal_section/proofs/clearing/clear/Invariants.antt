@@ -1,7 +1,7 @@
 use Rattle.std.proofs.Common.{◌≡◌, ℕ, ◌+◌, ◌<◌, slice_index}
 use Rattle.commit_id.specs.Shape.{as_shape}
 use Rattle.image_model.specs.Section.{entry_from}
-use Rattle.journal_section.specs.Entries.{IsWithin}
+use Rattle.image_model.specs.Entries.{IsWithin}
 use Rattle.journal_section.proofs.clearing.clear.Given as goal
 
 -- The high words of the entries so far are all ones, and all else is zero.

@@ -2,7 +2,7 @@ use Rattle.std.proofs.Common.{rules}
 use Rattle.disk_model.proofs.MomentsLemmas.{adds_then, sync_adds}
 use Rattle.image_model.specs.Geometry.{bitmap_sectors}
 use Rattle.change_model.specs.Change.{IsOfFilling}
-use Rattle.journal_erasure.specs.EmptySections.{empty_image}
+use Rattle.image_model.specs.EmptySections.{empty_image}
 use Rattle.mode_change.proofs.JournalStepLemmas.{blank_moments}
 use Rattle.mode_change.proofs.StepLemmas.{is_run}
 use Rattle.mode_change.proofs.emptying.fill_blank.Goals as goal

@@ -2,7 +2,7 @@ use Rattle.std.proofs.Common.{rules, ◌≡◌}
 use Rattle.disk_model.proofs.MomentsLemmas.{adds_then, sync_adds}
 use Rattle.image_model.specs.Geometry.{bitmap_sectors}
 use Rattle.change_model.specs.Change.{IsOfRest}
-use Rattle.journal_erasure.specs.EmptySections.{empty_image}
+use Rattle.image_model.specs.EmptySections.{empty_image}
 use Rattle.mode_change.proofs.JournalStepLemmas.{behind_slice, rest_is_run, rest_moments}
 use Rattle.mode_change.proofs.emptying.write_rest.Goals as goal
 

@@ -7,7 +7,7 @@ use Rattle.journal_model.specs.JournaledDisk.{StandsFor}
 use Rattle.journal_reading.specs.Journal.{journal_image}
 use Rattle.place_writer.specs.Cells.{HasCells}
 use Rattle.replay.specs.Replaying.{IsReadOn, IsToReplay, all_placed, entries_on}
-use Rattle.replay.specs.Writes.{IsOfPlacing}
+use Rattle.place_model.specs.RecoveryWrites.{IsOfPlacing}
 use Rattle.replay.proofs.RecoveryLemmas.{none_placed}
 use Rattle.replay.proofs.ReplayingLemmas.{geometry_of}
 use Rattle.replay.proofs.WritesLemmas.{replay_adds}

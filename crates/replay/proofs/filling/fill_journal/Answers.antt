@@ -4,7 +4,7 @@ use Rattle.disk_model.specs.Identity.{DiskIdentity}
 use Rattle.disk_model.specs.Moments.{EachSince, IsChangedBy}
 use Rattle.image_model.specs.Geometry.{Geometry}
 use Rattle.image_model.specs.Scan.{SectorCell}
-use Rattle.journal_erasure.specs.EmptySections.{AreEmptySections}
+use Rattle.image_model.specs.EmptySections.{AreEmptySections}
 use Rattle.journal_erasure.specs.Filling.{IsOfLacking, with_lacking}
 use Rattle.place_writer.proofs.StoreCalls.{ReadsWhole, reads_whole}
 use Rattle.tag_store.specs.Store.{IsStore}

@@ -3,7 +3,7 @@ use Rattle.disk_model.specs.Identity.{DiskIdentity}
 use Rattle.disk_model.specs.Moments.{HasNow, IsChangedBy}
 use Rattle.image_model.specs.Geometry.{Geometry, IsGeometry, journal_sectors}
 use Rattle.place_writer.proofs.StoreCalls.{ReadsWhole, reads_whole}
-use Rattle.journal_erasure.specs.EmptySections.{empty_image}
+use Rattle.image_model.specs.EmptySections.{empty_image}
 use Rattle.journal_erasure.specs.Erased.{IsErased}
 use Rattle.journal_erasure.specs.Erasing.{with_empty_journal}
 use Rattle.tag_store.specs.Store.{IsStore}

@@ -4,7 +4,7 @@ use Rattle.disk_model.specs.Moments.{EachSince}
 use Rattle.disk_model.specs.Disk.{OnlyAdds}
 use Rattle.disk_model.proofs.MomentsLemmas.{adds_then}
 use Rattle.place_writer.proofs.StoreCalls.{adds_put, gets_tag, puts_tag, reads_whole}
-use Rattle.tag_store.specs.Store.{HoldsTag}
+use Rattle.place_model.specs.Tags.{HoldsTag}
 use Rattle.image_model.specs.Geometry.{Geometry}
 use Rattle.replay.proofs.AmidLemmas.{tag_done, tag_got, tag_moments, tag_same}
 use Rattle.direct_laws.specs.CallLaws.{KeepsOthersNow}

@@ -6,7 +6,7 @@ use Rattle.image_model.specs.Geometry.{Geometry, Shape, data_at}
 use Rattle.journal_model.specs.Entries.{cell_of}
 use Rattle.journal_reading.specs.Entries.{entry_with}
 use Rattle.place_writer.specs.DirectModeCells.{IsOfBlockOrTags}
-use Rattle.tag_store.specs.Store.{HoldsTag}
+use Rattle.place_model.specs.Tags.{HoldsTag}
 use Rattle.replay.specs.Replaying.{HasAmid, last_cell, without}
 use Rattle.replay.specs.ReadPlaces.{ShowsPlaces}
 use Rattle.replay.proofs.ReadPlacesLemmas.{shows_others}

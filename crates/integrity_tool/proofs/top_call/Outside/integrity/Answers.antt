@@ -1,9 +1,11 @@
 use Rattle.std.proofs.Common.{inl, inr, ℕ, ◌≡◌, ◌⊎◌, ◌≤◌, Err, refl, sym, ◌∙◌, ap, subst, arith}
 use Rattle.script_text.specs.Found.{finds_fault}
 use Rattle.command_ending.specs.declared.ended.Ended.{Ended}
-use Rattle.integrity_tool.specs.Top.{HasStatus, outset_in, texts}
+use Rattle.integrity_tool.specs.Top.{outset_in}
+use Rattle.command_model.specs.Status.{HasStatus}
+use Rattle.command_model.specs.Given.{texts}
 use Rattle.command_task.specs.Words.{asked_of, key_file_of_asked}
-use Rattle.integrity_tool.specs.World.{Counts}
+use Rattle.command_model.specs.World.{Counts}
 use Rattle.command_task.proofs.EndedLemmas.{ok_no_err, not_ended}
 use Rattle.integrity_tool.proofs.KeyLemmas.{was_read}
 use Rattle.command_task.proofs.UnbegunLemmas.{read_in_further}

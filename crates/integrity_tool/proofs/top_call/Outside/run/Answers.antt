@@ -7,9 +7,10 @@ use Rattle.run_model.specs.Ending.{Failed}
 use Rattle.hmac_tag.specs.TagMaker.{key_of}
 use Rattle.command_task.specs.declared.asked.Asked.{Asked}
 use Rattle.command_task.specs.Running.{ending_by}
-use Rattle.script_lines.specs.Taken.{HasTaken}
+use Rattle.command_model.specs.Taken.{HasTaken}
 use Rattle.command_task.specs.Serving.{most_taken_for}
-use Rattle.integrity_tool.specs.Top.{outset_in, texts}
+use Rattle.integrity_tool.specs.Top.{outset_in}
+use Rattle.command_model.specs.Given.{texts}
 use Rattle.command_task.specs.Words.{HasNoScript, image_name, image_of, key_file_of, key_file_of_asked}
 use Rattle.command_task.proofs.EndedLemmas.{ok_no_err}
 use Rattle.integrity_tool.proofs.KeyLemmas.{words_unread}

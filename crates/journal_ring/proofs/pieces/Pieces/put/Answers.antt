@@ -1,8 +1,7 @@
 use Rattle.std.proofs.Common.{ap, subst}
-use Rattle.image_model.specs.Section.{Entry}
+use Rattle.image_model.specs.Section.{Entry, section_bytes}
 use Rattle.journal_section.specs.Pieces.{PutsEntry}
 use Rattle.journal_ring.specs.Runs.{Sections}
-use Rattle.journal_ring.specs.Sections.{section_bytes}
 use Rattle.journal_ring.proofs.pieces.Pieces.put.Goals as goal
 
 pub put_here-requires-clause-cut : goal.put_here-requires-clause-cut

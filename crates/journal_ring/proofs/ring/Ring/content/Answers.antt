@@ -2,10 +2,9 @@ use Rattle.std.proofs.Common.{◌≡◌, ◌*◌, ℕ, List, arith, sym, ap, sub
 use Rattle.std.specs.Option.{IfSome}
 use Rattle.commit_id.specs.Shape.{as_shape}
 use Rattle.image_model.specs.Geometry.{section_entries, Shape}
-use Rattle.image_model.specs.Section.{Entry}
-use Rattle.journal_section.specs.Entries.{entries_of}
+use Rattle.image_model.specs.Section.{Entry, section_bytes}
+use Rattle.image_model.specs.Entries.{entries_of}
 use Rattle.journal_section.specs.Pieces.{HasPieces}
-use Rattle.journal_ring.specs.Sections.{section_bytes}
 use Rattle.journal_ring.proofs.PlacesLemmas.{looks_from, parts_long}
 use Rattle.journal_ring.proofs.ring.Ring.content.Goals as goal
 

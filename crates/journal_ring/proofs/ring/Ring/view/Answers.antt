@@ -2,9 +2,9 @@ use Rattle.std.proofs.Common.{ℕ, List, arith, sym, ap, ◌∙◌, get_or, None
 use Rattle.std.specs.Option.{option_map}
 use Rattle.std.proofs.lemmas.Option.{none-some, same_Some}
 use Rattle.image_model.specs.Geometry.{section_entries, Shape}
-use Rattle.journal_section.specs.Entries.{entries_of}
+use Rattle.image_model.specs.Entries.{entries_of}
 use Rattle.journal_section.specs.View.{view_of}
-use Rattle.journal_ring.specs.Sections.{section_bytes}
+use Rattle.image_model.specs.Section.{section_bytes}
 use Rattle.journal_ring.proofs.PlacesLemmas.{looks_from}
 use Rattle.journal_ring.proofs.ring.Ring.view.Goals as goal
 

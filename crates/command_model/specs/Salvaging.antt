@@ -4,7 +4,7 @@ use Rattle.disk_model.specs.Disk.{Image}
 use Rattle.device_model.specs.Refusals.{ImageFault}
 use Rattle.run_model.specs.Ending.{Refused, ByImage}
 use Rattle.place_model.specs.Format.{DiskFormat, format_on}
-use Rattle.recovery_laws.specs.Refusals.{read_fault_of}
+use Rattle.place_model.specs.Refusals.{read_fault_of}
 use Rattle.salvage_model.specs.Salvaging.{has_bad, salvage_texts}
 use Rattle.run_model.specs.CommandRun.{Outset, RefusedBy, Prints}
 

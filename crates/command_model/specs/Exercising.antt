@@ -22,7 +22,7 @@ use Rattle.formatting_model.specs.NewImage.{provided_of}
 use Rattle.run_model.specs.CommandRun.{Exercising, Outset, RefusedBy, Exercises, IsOfScriptRun}
 use Rattle.workload_model.specs.Exercise.{exercise_lines}
 use Rattle.workload_model.specs.InOrder.{AreLinesBegun, changes_by_line}
-use Rattle.command_task.specs.Making.{IsLeftByMaking, IsMadeInOrder}
+use Rattle.command_model.specs.Making.{IsLeftByMaking, IsMadeInOrder}
 
 -- The image of an exercise.
 abbrev pub exercise_image : NewImage

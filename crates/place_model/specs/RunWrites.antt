@@ -7,8 +7,8 @@ use Rattle.image_model.specs.Geometry.{Geometry, bitmap_sectors, initial}
 use Rattle.image_model.specs.Superblock.{has_flag}
 use Rattle.device_model.specs.History.{Change, IsWrittenIn}
 use Rattle.device_model.specs.Mode as Model
-use Rattle.direct_mode.specs.Places.{IsOfPlaces}
-use Rattle.device.specs.Awaiting.{fields_of}
+use Rattle.place_model.specs.Places.{IsOfPlaces}
+use Rattle.place_model.specs.Awaiting.{fields_of}
 
 -- The sector is one of the journal's: behind those of the superblock, and before those of tags.
 pub record IsInJournal (g : Geometry) (sector : ℕ) : Type 0 where

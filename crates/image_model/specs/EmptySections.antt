@@ -3,8 +3,8 @@
 use Rattle.std.specs.Prelude.{◌≡◌, ℕ, ◌*◌, ◌-◌, ◌<◌, List, length, replicate, None}
 use Rattle.disk_model.specs.Disk.{Image, sector_in}
 use Rattle.image_model.specs.Geometry.{Geometry, Shape, journal_sectors, section_at, section_entries}
-use Rattle.journal_section.specs.Entries.{BearsNumber, HoldsEntries}
-use Rattle.journal_ring.specs.Sections.{section_bytes}
+use Rattle.image_model.specs.Entries.{BearsNumber, HoldsEntries}
+use Rattle.image_model.specs.Section.{section_bytes}
 
 -- The section has no used entry, each byte that nothing names is zero, and each sector bears the commit number.
 pub record IsEmptySection (shape : Shape) (section number : ℕ) (bytes : List ℕ) : Type 0 where

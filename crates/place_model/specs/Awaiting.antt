@@ -1,9 +1,10 @@
--- What awaits its tag by the fields of sector 0, in journal and in direct mode.
+-- What images say by the fields of sector 0: that they have no bitmap, and in journal and in direct mode what awaits its
+-- tag.
 -- Own: it grows less alone, from the opening on.
-use Rattle.std.specs.Prelude.{◌≡◌, ℕ, ◌<◌, true, List}
+use Rattle.std.specs.Prelude.{◌≡◌, ℕ, ◌<◌, true, false, List}
 use Rattle.disk_model.specs.Disk.{Content, EachImage, Image}
 use Rattle.disk_model.specs.Moments.{EachMoment}
-use Rattle.image_model.specs.declared.flags.TheConstants.{RECALCULATING}
+use Rattle.image_model.specs.declared.flags.TheConstants.{DIRTY_BITMAP, RECALCULATING}
 use Rattle.image_model.specs.Bitmap.{is_to_recalculate}
 use Rattle.image_model.specs.Geometry.{Geometry}
 use Rattle.image_model.specs.Superblock.{Superblock, fields_in, has_flag}
@@ -11,6 +12,10 @@ use Rattle.image_model.specs.Superblock.{Superblock, fields_in, has_flag}
 -- The fields of sector 0 of an image.
 abbrev pub fields_of : Image → Superblock
 fields_of image = fields_in (image 0)
+
+-- No image has the flag of a bitmap.
+abbrev pub HasNoBitmap : Content → Type 0
+HasNoBitmap c = EachImage (λ image. has_flag DIRTY_BITMAP (fields_of image).flags ≡ false) c
 
 -- By the new fields no block is to be recalculated that was not by the old ones, and the flag is not set where it was
 -- not.

@@ -13,7 +13,7 @@ use Rattle.judging_model.specs.Faults.{ImageFault}
 use Rattle.check_model.specs.Report.{awaiting_in}
 use Rattle.place_model.specs.Format.{DiskFormat, format_on}
 use Rattle.run_model.specs.CommandRun.{Outset, RefusedBy, Prints}
-use Rattle.command_task.specs.Refusing.{ending_by_refusal}
+use Rattle.command_model.specs.Refusing.{ending_by_refusal}
 
 -- ---- the lines
 

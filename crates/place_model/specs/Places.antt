@@ -3,7 +3,7 @@ use Rattle.std.specs.Prelude.{◌≡◌, ◌⊎◌, ℕ, ◌+◌, ◌<◌, ◌�
 use Rattle.disk_model.specs.Disk.{Content, OnlyAdds}
 use Rattle.disk_model.specs.Moments.{EachSince}
 use Rattle.image_model.specs.Geometry.{Geometry, data_at}
-use Rattle.tag_store.specs.Store.{HoldsTag}
+use Rattle.place_model.specs.Tags.{HoldsTag}
 
 -- The sector is one of the data of this block, which is one of the layout.
 pub record IsOfData (g : Geometry) (block sector : ℕ) : Type 0 where
