@@ -7,7 +7,7 @@ _integrity_options() {
         format)
             echo "$hash --tag-size= --sector-size= --interleave-sectors= --sections= --log2-blocks-per-bit= --salt=" \
                 '--integrity-legacy-padding --mode= --no-wipe --recalculate' ;;
-        run | nbd) echo "--mode= $hash --integrity-legacy-recalculate" ;;
+        run | nbd | mirror) echo "--mode= $hash --integrity-legacy-recalculate" ;;
         check) echo "$hash --placed" ;;
         salvage | resize) echo "$hash" ;;
     esac
@@ -20,6 +20,7 @@ _integrity_values() {
             case $1 in
                 run) echo 'J D B R' ;;
                 nbd) echo 'J D B' ;;
+                mirror) echo 'J' ;;
                 *) echo 'J B' ;;
             esac ;;
         --integrity) echo 'sha256 hmac-sha256' ;;
@@ -55,7 +56,7 @@ _integrity() {
     local word=${COMP_WORDS[COMP_CWORD]} before=${COMP_WORDS[COMP_CWORD - 1]} command=${COMP_WORDS[1]}
     COMPREPLY=()
     if [ "$COMP_CWORD" -eq 1 ]; then
-        mapfile -t COMPREPLY < <(compgen -W 'format run nbd dump check salvage resize exercise' -- "$word")
+        mapfile -t COMPREPLY < <(compgen -W 'format run nbd mirror dump check salvage resize exercise' -- "$word")
         return
     fi
     # bash parts a word at its `=`.

@@ -62,14 +62,54 @@ impl Writes {
         script: &str,
         text: &str,
     ) -> Result<Writes, AllocError> {
-        let mut all = Writes {
+        let mut all = Writes::of_nothing(alloc, form);
+        all.run_script(alloc, script, text)?;
+        Ok(all)
+    }
+
+    /// The writes of one image of a mirror, whose undisturbed run has printed this text: those of its levelling, which
+    /// gives these blocks what they hold in an image, and which its first line tells; and then those of the script.
+    pub fn of_mirror(
+        alloc: Global,
+        form: Form,
+        blocks: &[u64],
+        image: &[u8],
+        script: &str,
+        text: &str,
+    ) -> Result<Writes, AllocError> {
+        let mut all = Writes::of_nothing(alloc, form);
+        for block in blocks {
+            let data = form.data_of(image, *block);
+            all.writes.push(Written {
+                block: *block,
+                data: Vec::from_slice(alloc, data)?,
+                digest: form.digest_of(*block, data),
+            })?;
+        }
+        all.add_span(0)?;
+        all.flushed = all.writes.len();
+        let text = match text.split_once('\n') {
+            Some((_, text)) => text,
+            None => "",
+        };
+        all.run_script(alloc, script, text)?;
+        Ok(all)
+    }
+
+    /// No write.
+    fn of_nothing(alloc: Global, form: Form) -> Writes {
+        Writes {
             form,
             writes: Vec::new(alloc),
             spans: Vec::new(alloc),
             flushed: 0,
             flights: Vec::new(alloc),
             submitted: 0,
-        };
+        }
+    }
+
+    /// Runs the lines of a script, which print this where they are told.
+    fn run_script(&mut self, alloc: Global, script: &str, text: &str) -> Result<(), AllocError> {
         let told = told_lines(text);
         let mut replies = text.split('\n');
         let mut lines = 0usize;
@@ -81,14 +121,13 @@ impl Writes {
                 continue;
             }
             let reply = if lines < told { replies.next() } else { None };
-            let flushed = all.flushed;
-            all.run_line(alloc, line, reply)?;
-            all.add_span(flushed)?;
+            let flushed = self.flushed;
+            self.run_line(alloc, line, reply)?;
+            self.add_span(flushed)?;
             lines = lines.saturating_add(1);
         }
-        let flushed = all.flushed;
-        all.add_span(flushed)?;
-        Ok(all)
+        let flushed = self.flushed;
+        self.add_span(flushed)
     }
 
     /// Adds the span of one line more that is told.

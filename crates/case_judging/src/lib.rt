@@ -13,6 +13,7 @@ mod journaled;
 mod judging;
 mod kept;
 mod key;
+mod levelled;
 mod marks;
 mod position;
 mod reading;
@@ -31,6 +32,7 @@ pub use journal::{
 pub use journaled::Writes;
 pub use judging::{Met, Told, judge_made, judge_text};
 pub use kept::judge_kept;
+pub use levelled::Levelled;
 pub use marks::judge_bits;
 pub use position::{Reading, is_recalculating, judge_position, with_tags_made};
 pub use reading::{Known, judge_read_of_all, judge_reads, read_of_all, reads};

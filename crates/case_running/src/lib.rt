@@ -6,7 +6,7 @@
 mod running;
 mod telling;
 
-pub use running::{Command, Ended, run};
+pub use running::{Command, Ended, run, run_on_both};
 pub use telling::{
     Repeated, add, image_left, is_bitmapped, is_direct, is_journaled, is_keyed, is_recovering,
     outcome_of, put_rows, told_of,

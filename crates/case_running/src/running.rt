@@ -7,12 +7,13 @@ use std::alloc::Global;
 
 /// A command that is run by its words.
 pub trait Command {
-    /// Runs it with these words on a disk, with a key and a script, and answers its status.
+    /// Runs it with these words on a disk and that of a second image, with a key and a script, and answers its status.
     fn call(
         &self,
         alloc: Global,
         words: &[String],
         disk: &mut CutDisk,
+        second: &mut CutDisk,
         key: &mut WatchedFile<'_>,
         script: &mut WatchedSource<'_>,
         out: &mut WatchedSink,
@@ -25,6 +26,8 @@ pub struct Ended {
     pub status: u8,
     pub text: String,
     pub disk: CutDisk,
+    /// The disk of a second image.
+    pub second: CutDisk,
     /// How many calls failed of the script's source, of the sink and of the key's source.
     pub source_failed: u64,
     pub sink_failed: u64,
@@ -33,7 +36,7 @@ pub struct Ended {
     pub key_calls: u64,
 }
 
-/// Runs a command on a disk, with what a case gives, where this fails.
+/// Runs a command on a disk, with what a case gives, where this fails. The disk of a second image has no sector.
 ///
 /// # Errors
 ///
@@ -43,9 +46,28 @@ pub fn run<C: Command>(
     command: &C,
     case: &Case,
     fails: Fails,
-    mut disk: CutDisk,
+    disk: CutDisk,
 ) -> Result<Ended> {
+    let second = CutDisk::new(alloc, &[])?;
+    run_on_both(alloc, command, case, (fails, Fails::NONE), (disk, second))
+}
+
+/// Runs it on a disk and that of a second image. The first of these fails is the disk's, the other that of the second.
+///
+/// # Errors
+///
+/// There is no memory, or what was printed is no UTF-8.
+pub fn run_on_both<C: Command>(
+    alloc: Global,
+    command: &C,
+    case: &Case,
+    fails: (Fails, Fails),
+    disks: (CutDisk, CutDisk),
+) -> Result<Ended> {
+    let (mut disk, mut second) = disks;
+    let (fails, second_fails) = fails;
     disk.watch(fails);
+    second.watch(second_fails);
     let mut key = WatchedFile::new(&case.key, fails.key);
     let mut script = WatchedSource::new(&case.script, fails.source);
     let Ok(mut out) = WatchedSink::new(alloc, fails) else {
@@ -55,6 +77,7 @@ pub fn run<C: Command>(
         alloc,
         &case.words,
         &mut disk,
+        &mut second,
         &mut key,
         &mut script,
         &mut out,
@@ -63,6 +86,7 @@ pub fn run<C: Command>(
         status,
         text: text_of(alloc, &out)?,
         disk,
+        second,
         source_failed: script.failed,
         sink_failed: out.failed,
         key_failed: key.failed,

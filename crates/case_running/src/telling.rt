@@ -155,27 +155,40 @@ pub fn told_of<C: Command>(
     }
     for show in &case.shows {
         told.push_str("\n")?;
-        let line = shown(alloc, command, show, ended)?;
+        let line = shown(alloc, command, show, ended, &ended.disk)?;
         told.push_str(line.as_str())?;
+    }
+    if let Some(second) = &case.second {
+        for show in &second.shows {
+            told.push_str("\nsecond ")?;
+            let line = shown(alloc, command, show, ended, &ended.second)?;
+            told.push_str(line.as_str())?;
+        }
     }
     Ok(told)
 }
 
-/// What is shown of a run.
-fn shown<C: Command>(alloc: Global, command: &C, show: &Show, ended: &Ended) -> Result<String> {
+/// What is shown of a run and of what it left on one of its disks.
+fn shown<C: Command>(
+    alloc: Global,
+    command: &C,
+    show: &Show,
+    ended: &Ended,
+    disk: &CutDisk,
+) -> Result<String> {
     match show {
-        Show::Digest => digest_told(alloc, "digest", ended.disk.bytes()),
+        Show::Digest => digest_told(alloc, "digest", disk.bytes()),
         Show::Text => digest_told(alloc, "digest of the text", ended.text.as_str().as_bytes()),
-        Show::Outside => outside_told(alloc, ended.disk.bytes()),
-        Show::Numbers => numbers_told(alloc, ended.disk.bytes()),
-        Show::Bytes(piece) => piece_told(alloc, ended.disk.bytes(), *piece),
+        Show::Outside => outside_told(alloc, disk.bytes()),
+        Show::Numbers => numbers_told(alloc, disk.bytes()),
+        Show::Bytes(piece) => piece_told(alloc, disk.bytes(), *piece),
         Show::Writes => {
-            let (writes, syncs) = (ended.disk.seen.writes, ended.disk.seen.syncs);
+            let (writes, syncs) = (disk.seen.writes, disk.seen.syncs);
             Ok(format!(in alloc; "{writes} sectors written, {syncs} syncs")?)
         }
         Show::Reopened { candidates, script } => {
             let case = Case::new(alloc, script.clone()?)?;
-            let image = image_left(alloc, &ended.disk, *candidates)?;
+            let image = image_left(alloc, disk, *candidates)?;
             let disk = CutDisk::new(alloc, &image)?;
             let again = run(alloc, command, &case, Fails::NONE, disk)?;
             reopened(alloc, *candidates, &again)

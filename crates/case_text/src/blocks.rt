@@ -1,6 +1,6 @@
 //! The cases and tables of a text.
-use crate::Case;
 use crate::reading::{apply, cut};
+use crate::{Case, Second};
 use anyhow::{Context, Result, bail};
 use std::alloc::{AllocError, Global};
 
@@ -89,7 +89,29 @@ fn apply_line(alloc: Global, case: &mut Case, line: &Line, row: &str) -> Result<
     if text.as_str().starts_with("for ") {
         return Ok(());
     }
-    apply(alloc, case, text.as_str())
+    match text.as_str().strip_prefix("second ") {
+        Some(line) => apply_to_second(alloc, case, line),
+        None => apply(alloc, case, text.as_str()),
+    }
+}
+
+/// Adds to the second disk of a case what a line says. What is no disk's does not count.
+fn apply_to_second(alloc: Global, case: &mut Case, line: &str) -> Result<()> {
+    let mut alone = Case::new(alloc, Vec::new(alloc))?;
+    if let Some(second) = case.second.take() {
+        alone.start = second.start;
+        alone.edits = second.edits;
+        alone.fails = second.fails;
+        alone.shows = second.shows;
+    }
+    apply(alloc, &mut alone, line)?;
+    case.second = Some(Second {
+        start: alone.start,
+        edits: alone.edits,
+        fails: alone.fails,
+        shows: alone.shows,
+    });
+    Ok(())
 }
 
 /// A line with the columns of a row in the places of `{1}`, `{2}` and so on.

@@ -121,11 +121,22 @@ pub enum Show {
     },
 }
 
+/// The disk of a second image: with what it begins, what fails of it, and what is shown of it after a run.
+#[derive(Drop)]
+pub struct Second {
+    pub start: Start,
+    pub edits: Vec<Edit>,
+    pub fails: Fails,
+    pub shows: Vec<Show>,
+}
+
 /// A case: what its run is given, and what is tried and shown.
 #[derive(Drop)]
 pub struct Case {
     pub start: Start,
     pub edits: Vec<Edit>,
+    /// The disk of a second image, if there is one. Without it that disk has no sector.
+    pub second: Option<Second>,
     pub words: Vec<String>,
     pub key: Vec<u8>,
     pub script: Vec<u8>,
@@ -147,6 +158,7 @@ impl Case {
         Ok(Case {
             start: Start::Small { sectors: 256 },
             edits: Vec::new(alloc),
+            second: None,
             words,
             key: Vec::new(alloc),
             script,

@@ -10,6 +10,8 @@ mod reading;
 mod runs;
 
 pub use blocks::{Block, Line, blocks_of, case_of, table_of};
-pub use case::{CHOICES, Candidates, Case, Edit, Kind, Piece, Show, Start, kind_of, name_of};
+pub use case::{
+    CHOICES, Candidates, Case, Edit, Kind, Piece, Second, Show, Start, kind_of, name_of,
+};
 pub use fails::{Fails, with_failure};
 pub use reading::{apply, cut};

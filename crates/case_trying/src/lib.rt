@@ -6,6 +6,7 @@
 mod bitmaps;
 mod changing;
 mod input;
+mod mirroring;
 mod reads;
 mod recovering;
 mod resizing;

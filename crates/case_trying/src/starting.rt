@@ -2,18 +2,19 @@
 use anyhow::{Result, bail};
 use case_judging::{form_of, put_at, put_empty, put_fresh, put_sector};
 use case_running::image_left;
-use case_text::{Case, Edit, Start};
+use case_text::{Edit, Start};
 use cut_disk::CutDisk;
 use std::alloc::Global;
 
-/// The bytes of the disk that a case begins with.
+/// The bytes of a disk that a case begins with, with edits of it.
 pub fn base_of(
     alloc: Global,
     small: &[u8],
     left: &Option<CutDisk>,
-    case: &Case,
+    start: Start,
+    edits: &[Edit],
 ) -> Result<Vec<u8>> {
-    let mut bytes = match case.start {
+    let mut bytes = match start {
         Start::Small { sectors } => {
             let mut bytes = Vec::from_slice(alloc, small)?;
             bytes.resize((sectors as usize).saturating_mul(512), 0)?;
@@ -26,7 +27,7 @@ pub fn base_of(
         },
         Start::Left => bail!("a disk that was left has no bytes of its own"),
     };
-    for edit in &case.edits {
+    for edit in edits {
         edit_bytes(&mut bytes, edit)?;
     }
     Ok(bytes)

@@ -15,7 +15,7 @@ use cut_disk::CutDisk;
 use std::alloc::Global;
 
 /// The most runs of a kind that are tried.
-const MOST: u64 = 4096;
+pub(crate) const MOST: u64 = 4096;
 
 /// How much was tried.
 #[derive(Drop)]
@@ -122,10 +122,7 @@ pub fn try_each<C: Command>(
     undisturbed: &Ended,
     kind: Kind,
 ) -> Result<String> {
-    let first = match kind {
-        Kind::Stop | Kind::Room => 0,
-        _ => 1,
-    };
+    let first = first_of(kind);
     let images = counts.images;
     let mut told = String::new(alloc);
     for number in first..MOST {
@@ -146,8 +143,16 @@ pub fn try_each<C: Command>(
     bail!("each run met a failure")
 }
 
+/// The number of the first failure of a kind.
+pub(crate) fn first_of(kind: Kind) -> u64 {
+    match kind {
+        Kind::Stop | Kind::Room => 0,
+        _ => 1,
+    }
+}
+
 /// What is told of a run that is wrong.
-fn wrong_told(
+pub(crate) fn wrong_told(
     alloc: Global,
     kind: Kind,
     number: u64,
@@ -160,7 +165,13 @@ fn wrong_told(
 }
 
 /// What is told of the failures of a kind.
-fn tried_told(alloc: Global, kind: Kind, failed: u64, images: u64, wrong: &str) -> Result<String> {
+pub(crate) fn tried_told(
+    alloc: Global,
+    kind: Kind,
+    failed: u64,
+    images: u64,
+    wrong: &str,
+) -> Result<String> {
     let name = name_of(kind);
     Ok(format!(in alloc; "\neach {name}: {failed} failed, {images} images{wrong}")?)
 }
@@ -180,9 +191,10 @@ fn run_again<C: Command>(
 }
 
 /// The failure of a kind, with this number, that a run met.
-fn met_by(kind: Kind, number: u64, ended: &Ended) -> Met {
+pub(crate) fn met_by(kind: Kind, number: u64, ended: &Ended) -> Met {
+    let (one, other) = (&ended.disk.seen, &ended.second.seen);
     let (failed, met) = match kind {
-        Kind::Disk | Kind::Stop => (ended.disk.seen.failed, Met::Disk),
+        Kind::Disk | Kind::Stop => (one.failed.saturating_add(other.failed), Met::Disk),
         Kind::Source => (ended.source_failed, Met::Source),
         Kind::Sink => (ended.sink_failed, Met::Sink),
         Kind::Room => (ended.sink_failed, Met::Full { room: number }),
@@ -281,7 +293,7 @@ fn judge_blocks<C: Command>(
 }
 
 /// What a run printed, and its status.
-fn told_by(ended: &Ended) -> Told<'_> {
+pub(crate) fn told_by(ended: &Ended) -> Told<'_> {
     Told {
         status: ended.status,
         text: ended.text.as_str(),

@@ -13,7 +13,8 @@ use Rattle.nbd_command.specs.ServedRun.{Complete, DiskFailed, IsEndedBy, NoMemor
 use Rattle.run_model.specs.ServedRun.{EndsUnbegun}
 use Rattle.stream_io.specs.Stream.{held_with}
 use Rattle.run_model.specs.CommandRun.{IsOfDevice, IsOfScriptRun}
-use Rattle.command_task.specs.declared.asked.Asked.{Asked}
+use Rattle.command_task.specs.declared.asked.Asking.{Asking}
+use Rattle.command_task.specs.declared.asked.Asking.TheVariants.{OneImage, TwoImages}
 use Rattle.command_task.specs.declared.asked.Task.{Task}
 use Rattle.command_task.specs.declared.asked.Task.TheVariants as Tasks
 use Rattle.device_model.specs.ScriptBytes.{most_taken}
@@ -58,6 +59,7 @@ abbrev pub most_taken_at : Task → ℕ
 most_taken_at (Tasks.Serve mode) = most_stream + most_piece
 most_taken_at task = most_taken
 
-abbrev pub most_taken_for : Option Asked → ℕ
+abbrev pub most_taken_for : Option Asking → ℕ
 most_taken_for None = most_taken
-most_taken_for (Some asked) = most_taken_at asked.task
+most_taken_for (Some (OneImage asked)) = most_taken_at asked.task
+most_taken_for (Some (TwoImages asked)) = most_taken

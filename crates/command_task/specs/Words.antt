@@ -1,7 +1,6 @@
 -- What the words ask for.
--- Own: the commands are `format`, `dump`, `check`, `salvage`, `resize`, `run`, `nbd` and `exercise`.
-use Rattle.std.specs.Prelude.{◌≤◌, ℕ, List, [], Option, Some, None}
-use Rattle.std.specs.Option.{option_map}
+-- Own: the commands are `format`, `dump`, `check`, `salvage`, `resize`, `run`, `nbd`, `mirror` and `exercise`.
+use Rattle.std.specs.Prelude.{◌≤◌, ℕ, List, [], Option, Some, None, option_and_then, option_map}
 use Rattle.command_words.specs.Commands.{command_of}
 use Rattle.command_words.specs.Numbers.{log2_of}
 use Rattle.command_words.specs.Sizes.{log2_sectors}
@@ -11,6 +10,7 @@ use Rattle.command_words.specs.declared.command.Check.{Check}
 use Rattle.command_words.specs.declared.command.Dump.{Dump}
 use Rattle.command_words.specs.declared.command.Exercise.{Exercise}
 use Rattle.command_words.specs.declared.command.Format.{Format}
+use Rattle.command_words.specs.declared.command.Mirror.{Mirror}
 use Rattle.command_words.specs.declared.command.Nbd.{Nbd}
 use Rattle.command_words.specs.declared.command.Run.{Run}
 use Rattle.command_words.specs.declared.command.Resize.{Resize}
@@ -30,6 +30,9 @@ use Rattle.judging_model.specs.declared.consent.Consent.TheVariants.{Given, With
 use Rattle.device.specs.declared.opening.OpenMode.{OpenMode}
 use Rattle.device.specs.declared.opening.OpenMode.TheVariants.{Bitmap, Direct, Journal, Recovery}
 use Rattle.command_task.specs.declared.asked.Asked.{Asked}
+use Rattle.command_task.specs.declared.asked.AskedMirror.{AskedMirror}
+use Rattle.command_task.specs.declared.asked.Asking.{Asking}
+use Rattle.command_task.specs.declared.asked.Asking.TheVariants.{OneImage, TwoImages}
 use Rattle.command_task.specs.declared.asked.Task.{Task}
 use Rattle.command_task.specs.declared.asked.Task.TheVariants as Tasks
 
@@ -69,6 +72,10 @@ IsTask Tasks.Salvage = Unit {0}
 IsTask Tasks.Resize = Unit {0}
 IsTask (Tasks.Format new) = IsNewImage new
 IsTask (Tasks.Exercise seed count) = count ≤ most_requests
+
+abbrev pub IsAsking : Asking → Type 0
+IsAsking (OneImage asked) = IsTask asked.task
+IsAsking (TwoImages asked) = Unit {0}
 
 -- ---- by the words
 
@@ -119,28 +126,63 @@ exercise_asked exercise = record {
   task = Tasks.Exercise exercise.seed exercise.count;
 }
 
+-- A mirror has two images, under one hash and key, both in journal mode.
+abbrev pub mirror_asked : Mirror → AskedMirror
+mirror_asked mirror = record {
+  image = mirror.image;
+  second = mirror.second;
+  hash = mirror.hash;
+  consent = consent_as mirror.consent;
+}
+
 -- What a command asks for.
-abbrev pub asked_by : Command → Asked
-asked_by (Commands.Format format) = format_asked format
-asked_by (Commands.Run run) = run_asked run
-asked_by (Commands.Nbd nbd) = nbd_asked nbd
-asked_by (Commands.Dump dump) = dump_asked dump
-asked_by (Commands.Check check) = check_asked check
-asked_by (Commands.Salvage salvage) = salvage_asked salvage
-asked_by (Commands.Resize resize) = resize_asked resize
-asked_by (Commands.Exercise exercise) = exercise_asked exercise
+abbrev pub asked_by : Command → Asking
+asked_by (Commands.Format format) = OneImage (format_asked format)
+asked_by (Commands.Run run) = OneImage (run_asked run)
+asked_by (Commands.Nbd nbd) = OneImage (nbd_asked nbd)
+asked_by (Commands.Mirror mirror) = TwoImages (mirror_asked mirror)
+asked_by (Commands.Dump dump) = OneImage (dump_asked dump)
+asked_by (Commands.Check check) = OneImage (check_asked check)
+asked_by (Commands.Salvage salvage) = OneImage (salvage_asked salvage)
+asked_by (Commands.Resize resize) = OneImage (resize_asked resize)
+asked_by (Commands.Exercise exercise) = OneImage (exercise_asked exercise)
 
 -- What the words ask for. The first is the program's name.
-abbrev pub asked_of : List (List ℕ) → Option Asked
-asked_of words = option_map asked_by (command_of words)
+abbrev pub asking_of : List (List ℕ) → Option Asking
+asking_of words = option_map asked_by (command_of words)
 
--- The name of the image, and no bytes where the words ask for none.
-abbrev pub image_of : Option Asked → List ℕ
+-- What is asked for on one image.
+abbrev pub on_one_image : Asking → Option Asked
+on_one_image (OneImage asked) = Some asked
+on_one_image (TwoImages asked) = None
+
+-- What the words ask for on one image.
+abbrev pub asked_of : List (List ℕ) → Option Asked
+asked_of words = option_and_then on_one_image (asking_of words)
+
+-- The words name no second image: those of no command name none at all.
+abbrev pub HasOneImage : Option Asking → Type 0
+HasOneImage None = Unit {0}
+HasOneImage (Some (OneImage asked)) = Unit {0}
+HasOneImage (Some (TwoImages asked)) = ⊥
+
+-- The name of the image, of two the first; no bytes where the words ask for none.
+abbrev pub image_of : Option Asking → List ℕ
 image_of None = []
-image_of (Some asked) = asked.image
+image_of (Some (OneImage asked)) = asked.image
+image_of (Some (TwoImages asked)) = asked.image
 
 abbrev pub image_name : List (List ℕ) → List ℕ
-image_name words = image_of (asked_of words)
+image_name words = image_of (asking_of words)
+
+-- The name of the second image, where there are two.
+abbrev pub second_of : Option Asking → Option (List ℕ)
+second_of None = None
+second_of (Some (OneImage asked)) = None
+second_of (Some (TwoImages asked)) = Some asked.second
+
+abbrev pub second_name : List (List ℕ) → Option (List ℕ)
+second_name words = second_of (asking_of words)
 
 -- The file of the key, where tags are keyed.
 abbrev pub key_file_of : HashChoice → Option (List ℕ)
@@ -148,9 +190,10 @@ key_file_of Sha256 = None
 key_file_of (HmacSha256 key_file) = Some key_file
 
 -- The key file that the words name, if they name one.
-abbrev pub key_file_of_asked : Option Asked → Option (List ℕ)
-key_file_of_asked None = None
-key_file_of_asked (Some asked) = key_file_of asked.hash
+abbrev pub key_file_of_asking : Option Asking → Option (List ℕ)
+key_file_of_asking None = None
+key_file_of_asking (Some (OneImage asked)) = key_file_of asked.hash
+key_file_of_asking (Some (TwoImages asked)) = key_file_of asked.hash
 
 -- ---- what has no script
 
@@ -165,6 +208,7 @@ IsScriptless (Tasks.Format new) = Unit {0}
 IsScriptless (Tasks.Exercise seed count) = Unit {0}
 
 -- The words ask for nothing that reads a script.
-abbrev pub HasNoScript : Option Asked → Type 0
+abbrev pub HasNoScript : Option Asking → Type 0
 HasNoScript None = Unit {0}
-HasNoScript (Some asked) = IsScriptless asked.task
+HasNoScript (Some (OneImage asked)) = IsScriptless asked.task
+HasNoScript (Some (TwoImages asked)) = ⊥

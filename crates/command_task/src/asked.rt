@@ -2,14 +2,14 @@
 ghost use Rattle.std.specs.Prelude.{◌≡◌, ◌⊎◌, Err, IfErr, IfOk, None, Some, map};
 ghost use Rattle.std.specs.String.{string_bytes};
 ghost use Rattle.command_ending.specs.declared.ended.Ended.TheVariants as Endings;
-ghost use Rattle.command_task.specs.Words.{IsTask, MayWrite, asked_by, asked_of, check_asked, consent_as, dump_asked, exercise_asked, format_asked, mode_as, nbd_asked, nbd_mode_as, new_image_of, resize_asked, run_asked, salvage_asked};
+ghost use Rattle.command_task.specs.Words.{IsAsking, IsTask, MayWrite, asked_by, asking_of, check_asked, consent_as, dump_asked, exercise_asked, format_asked, mirror_asked, mode_as, nbd_asked, nbd_mode_as, new_image_of, resize_asked, run_asked, salvage_asked};
 ghost use Rattle.formatting_model.specs.NewImage.{IsNewImage};
 ghost use Rattle.command_ending.specs.declared.refusal.Refusal.TheVariants as refusals;
 
 use command_ending::{Ended, Refusal};
 use command_words::{
-    Check, Command, Consent, Dump, Exercise, FileName, Format, HashChoice, Mode, Nbd, NbdMode,
-    Resize, Run, Salvage, WordsFault, parse,
+    Check, Command, Consent, Dump, Exercise, FileName, Format, HashChoice, Mirror, Mode, Nbd,
+    NbdMode, Resize, Run, Salvage, WordsFault, parse,
 };
 use device::OpenMode;
 use image_check::What;
@@ -18,6 +18,15 @@ use std::alloc::Global;
 
 /// What the words ask for.
 #[derive(Debug, Drop)]
+pub enum Asking {
+    /// Something that is done on one image.
+    OneImage(Asked),
+    /// A script that is run on a mirror of two.
+    TwoImages(AskedMirror),
+}
+
+/// What is asked for on one image.
+#[derive(Debug, Drop)]
 pub struct Asked {
     /// The image.
     pub image: FileName,
@@ -25,6 +34,19 @@ pub struct Asked {
     pub hash: HashChoice,
     /// What is done on it.
     pub task: Task,
+}
+
+/// What is asked for on two images. Each is opened in journal mode.
+#[derive(Debug, Drop)]
+pub struct AskedMirror {
+    /// The image of the first leg.
+    pub image: FileName,
+    /// The image of the second leg: another word than the first.
+    pub second: FileName,
+    /// The hash of the tags of both.
+    pub hash: HashChoice,
+    /// Whether tags under a key may be made anew.
+    pub consent: device::Consent,
 }
 
 /// What is done on an image.
@@ -59,11 +81,11 @@ pub enum Task {
 ///
 /// - `Words`: they are no command.
 /// - `Memory`: there is none.
-pub fn words_asked(alloc: Global, words: &[String]) -> Result<Asked, Ended>
-    ensures asked { IfOk result (λ asked. asked_of (map string_bytes words.now) ≡ Some asked) }
-    ensures task { IfOk result (λ asked. IsTask asked.task) }
+pub fn words_asked(alloc: Global, words: &[String]) -> Result<Asking, Ended>
+    ensures asked { IfOk result (λ asking. asking_of (map string_bytes words.now) ≡ Some asking) }
+    ensures task { IfOk result IsAsking }
 
-    ensures words { result ≡ Err (Endings.Refused refusals.Words) → asked_of (map string_bytes words.now) ≡ None }
+    ensures words { result ≡ Err (Endings.Refused refusals.Words) → asking_of (map string_bytes words.now) ≡ None }
     ensures errors { IfErr result (λ ended. (ended ≡ Endings.Refused refusals.Words) ⊎ (ended ≡ Endings.Memory)) }
 {
     match parse(alloc, words) {
@@ -74,19 +96,20 @@ pub fn words_asked(alloc: Global, words: &[String]) -> Result<Asked, Ended>
 }
 
 /// What a command asks for.
-fn asked_by(command: Command) -> Asked
+fn asked_by(command: Command) -> Asking
     ensures asked { result ≡ asked_by command }
-    ensures task { IsTask result.task }
+    ensures task { IsAsking result }
 {
     match command {
-        Command::Format(format) => format_asked(format),
-        Command::Run(run) => run_asked(run),
-        Command::Nbd(nbd) => nbd_asked(nbd),
-        Command::Dump(dump) => dump_asked(dump),
-        Command::Check(check) => check_asked(check),
-        Command::Salvage(salvage) => salvage_asked(salvage),
-        Command::Resize(resize) => resize_asked(resize),
-        Command::Exercise(exercise) => exercise_asked(exercise),
+        Command::Format(format) => Asking::OneImage(format_asked(format)),
+        Command::Run(run) => Asking::OneImage(run_asked(run)),
+        Command::Nbd(nbd) => Asking::OneImage(nbd_asked(nbd)),
+        Command::Mirror(mirror) => Asking::TwoImages(mirror_asked(mirror)),
+        Command::Dump(dump) => Asking::OneImage(dump_asked(dump)),
+        Command::Check(check) => Asking::OneImage(check_asked(check)),
+        Command::Salvage(salvage) => Asking::OneImage(salvage_asked(salvage)),
+        Command::Resize(resize) => Asking::OneImage(resize_asked(resize)),
+        Command::Exercise(exercise) => Asking::OneImage(exercise_asked(exercise)),
     }
 }
 
@@ -147,6 +170,18 @@ fn nbd_mode(mode: NbdMode, by: Consent) -> OpenMode
         NbdMode::Journal => OpenMode::Journal(consent(by)),
         NbdMode::Direct => OpenMode::Direct(consent(by)),
         NbdMode::Bitmap => OpenMode::Bitmap(consent(by)),
+    }
+}
+
+/// What `mirror` asks for.
+fn mirror_asked(mirror: Mirror) -> AskedMirror
+    ensures { result ≡ mirror_asked mirror }
+{
+    AskedMirror {
+        image: mirror.image,
+        second: mirror.second,
+        hash: mirror.hash,
+        consent: consent(mirror.consent),
     }
 }
 

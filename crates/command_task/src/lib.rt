@@ -9,6 +9,6 @@ mod asked;
 mod refusing;
 mod telling;
 
-pub use asked::{Asked, Task, words_asked};
+pub use asked::{Asked, AskedMirror, Asking, Task, words_asked};
 pub use refusing::{ended_by_opening, handed_back, head_fault};
 pub use telling::{Telling, put_end};

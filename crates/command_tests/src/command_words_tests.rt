@@ -7,7 +7,7 @@ use std::test::Fail;
 /// Words that are a command, parted by `|`, and a part of what is shown of it.
 ///
 /// Source: what clap 4 makes of such words without settings of its own, and the ends of the values.
-static TAKEN: [(&str, &str); 44] = [
+static TAKEN: [(&str, &str); 48] = [
     (
         "run|I|--mode|D",
         "Run(Run { image: FileName { name: \"I\" }, mode: Direct, hash: Sha256, consent: Withheld })",
@@ -53,6 +53,22 @@ static TAKEN: [(&str, &str); 44] = [
     (
         "nbd|--mode|J|--|-I",
         "Nbd(Nbd { image: FileName { name: \"-I\" }",
+    ),
+    (
+        "mirror|I|S|--mode|J",
+        "Mirror(Mirror { image: FileName { name: \"I\" }, second: FileName { name: \"S\" }, hash: Sha256, consent: Withheld })",
+    ),
+    (
+        "mirror|--mode=J|I|--integrity|hmac-sha256|./I|--integrity-key-file|K",
+        "second: FileName { name: \"./I\" }, hash: HmacSha256 { key_file: FileName { name: \"K\" } }",
+    ),
+    (
+        "mirror|--integrity-legacy-recalculate|I|S|--mode|J",
+        "hash: Sha256, consent: Given })",
+    ),
+    (
+        "mirror|--mode|J|--|-I|-S",
+        "image: FileName { name: \"-I\" }, second: FileName { name: \"-S\" }",
     ),
     ("dump|I", "Dump(Dump { image: FileName { name: \"I\" } })"),
     ("dump|-", "name: \"-\""),
@@ -145,7 +161,7 @@ static TAKEN: [(&str, &str); 44] = [
 ];
 
 /// Words that are no command: one beyond each end, and what clap 4 refuses.
-static REFUSED: [&str; 79] = [
+static REFUSED: [&str; 87] = [
     "run|I|--mode|X",
     "run|I|--mode|",
     "run|I|--mode",
@@ -177,6 +193,14 @@ static REFUSED: [&str; 79] = [
     "nbd|I|--mode|J|--mode|J",
     "nbd|I|--mode|J|--integrity|hmac-sha256",
     "nbd|I|--mode|J|--help",
+    "mirror|I|I|--mode|J",
+    "mirror|I|--mode|J",
+    "mirror|I|S|T|--mode|J",
+    "mirror|I|S",
+    "mirror|I|S|--mode|D",
+    "mirror|I|S|--mode|j",
+    "mirror|I|S|--mode|J|--mode|J",
+    "mirror|I|S|--mode|J|--integrity|hmac-sha256",
     "dump|--|-h",
     "dump|I|--help",
     "dump|-V",

@@ -10,7 +10,7 @@ use Rattle.clap.specs.Simple.{with_index, with_leaf_noted}
 use Rattle.clap.specs.Faults.{given_default_fault}
 use Rattle.clap.proofs.OnLiterals.{clap_on_literals}
 use Rattle.command_words.specs.Table.{Entry, OptionEntry, check_entry, dump_entry, exercise_entry, format_entry}
-use Rattle.command_words.specs.Table.{nbd_entry, resize_entry, run_entry, salvage_entry, table}
+use Rattle.command_words.specs.Table.{mirror_entry, nbd_entry, resize_entry, run_entry, salvage_entry, table}
 use Rattle.command_words.specs.ByClap.{app, entry_app, option_rule, place_rule}
 use Rattle.command_words.specs.Commands.{is_question}
 use Rattle.command_words.specs.PlainForm.{unset_pairs}
@@ -147,6 +147,25 @@ nbd_leaf = record {
   unset = refl;
 }
 
+pub mirror_leaf : IsLeafOf mirror_entry (leaf mirror_entry)
+unfolding clap_on_literals
+mirror_leaf = record {
+  options = fact _ _ _ refl refl refl refl refl refl ▹ fact _ _ _ refl refl refl refl refl refl
+      ▹ fact _ _ _ refl refl refl refl refl refl ▹ fact _ _ _ refl refl refl refl refl refl ▹ tt;
+  places = (refl, refl, refl, refl, (refl, refl, refl, refl, tt));
+  required = refl;
+  defaults = refl ▹ refl ▹ refl ▹ refl ▹ refl ▹ refl ▹ tt;
+  again = refl;
+  helps = refl;
+  enters = refl;
+  named = refl;
+  met = refl;
+  found = refl;
+  asks = refl;
+  helpless = refl;
+  unset = refl;
+}
+
 pub dump_leaf : IsLeafOf dump_entry (leaf dump_entry)
 unfolding clap_on_literals
 dump_leaf = record {
@@ -240,4 +259,5 @@ exercise_leaf = record {
 
 -- Each command of the table is a leaf.
 pub leaves : Each (λ entry. IsLeafOf entry (leaf entry)) table
-leaves = format_leaf ▹ run_leaf ▹ nbd_leaf ▹ dump_leaf ▹ check_leaf ▹ salvage_leaf ▹ resize_leaf ▹ exercise_leaf ▹ tt
+leaves = format_leaf ▹ run_leaf ▹ nbd_leaf ▹ mirror_leaf ▹ dump_leaf ▹ check_leaf ▹ salvage_leaf ▹ resize_leaf
+    ▹ exercise_leaf ▹ tt

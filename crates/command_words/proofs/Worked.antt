@@ -209,6 +209,54 @@ command_of-nbd_without_mode : command_of (codes "integrity" ∷ codes "nbd" ∷ 
 unfolding clap_on_literals
 command_of-nbd_without_mode = refl
 
+-- A mirror has the options of a run, journal mode alone, and the mode is named.
+command_of-mirror : command_of (codes "integrity" ∷ codes "mirror" ∷ codes "I" ∷ codes "S" ∷ codes "--mode" ∷ codes "J"
+    ∷ []) ≡ Some (command.Mirror (record { image = codes "I"; second = codes "S"; hash = Sha256; consent = Withheld }))
+unfolding clap_on_literals
+command_of-mirror = refl
+
+command_of-mirror_keyed : command_of (codes "integrity" ∷ codes "mirror" ∷ codes "--mode=J" ∷ codes "I"
+    ∷ codes "--integrity" ∷ codes "hmac-sha256" ∷ codes "--integrity-key-file" ∷ codes "K"
+    ∷ codes "--integrity-legacy-recalculate" ∷ codes "S" ∷ [])
+    ≡ Some (command.Mirror (record {
+      image = codes "I";
+      second = codes "S";
+      hash = HmacSha256 (codes "K");
+      consent = Given;
+    }))
+unfolding clap_on_literals
+command_of-mirror_keyed = refl
+
+command_of-mirror_direct : command_of (codes "integrity" ∷ codes "mirror" ∷ codes "I" ∷ codes "S" ∷ codes "--mode"
+    ∷ codes "D" ∷ []) ≡ None
+unfolding clap_on_literals
+command_of-mirror_direct = refl
+
+command_of-mirror_without_mode : command_of (codes "integrity" ∷ codes "mirror" ∷ codes "I" ∷ codes "S" ∷ []) ≡ None
+unfolding clap_on_literals
+command_of-mirror_without_mode = refl
+
+-- Its second image is another word than the first, be it another word for the same file.
+command_of-mirror_of_one : command_of (codes "integrity" ∷ codes "mirror" ∷ codes "I" ∷ codes "I" ∷ codes "--mode"
+    ∷ codes "J" ∷ []) ≡ None
+unfolding clap_on_literals
+command_of-mirror_of_one = refl
+
+command_of-mirror_by_path : command_of (codes "integrity" ∷ codes "mirror" ∷ codes "I" ∷ codes "./I" ∷ codes "--mode"
+    ∷ codes "J" ∷ []) ≡ Some (command.Mirror (record {
+      image = codes "I";
+      second = codes "./I";
+      hash = Sha256;
+      consent = Withheld;
+    }))
+unfolding clap_on_literals
+command_of-mirror_by_path = refl
+
+command_of-mirror_alone : command_of (codes "integrity" ∷ codes "mirror" ∷ codes "I" ∷ codes "--mode" ∷ codes "J" ∷ [])
+    ≡ None
+unfolding clap_on_literals
+command_of-mirror_alone = refl
+
 -- Behind `--` a word may begin with `-`; one that asks for help makes all of them no command.
 command_of-dashes : command_of (codes "integrity" ∷ codes "dump" ∷ codes "--" ∷ codes "-I" ∷ [])
     ≡ Some (command.Dump (record { image = codes "-I" }))

@@ -1,7 +1,8 @@
 -- Which command the words give: the values of its places and options, and the rules between them.
 -- Own, but for what integritysetup(8) has under the same names.
-use Rattle.std.specs.Prelude.{◌==◌, ℕ, List, Option, Some, None, if◌then◌else◌, option_and_then, option_map}
-use Rattle.std.specs.Prelude.{unwrap_or, codes}
+use Rattle.std.specs.Prelude.{◌==◌, ℕ, Bool, false, List, Option, Some, None, if◌then◌else◌, option_and_then}
+use Rattle.std.specs.Prelude.{option_map, unwrap_or, codes}
+use Rattle.std.specs.Option.{option_map_or}
 use Rattle.std.specs.Str.{bytes_eq}
 use Rattle.std.specs.Result.{result_ok}
 use Rattle.hex.specs.Hex.{decode_sized}
@@ -61,6 +62,14 @@ nbd_mode_named text =
     else if bytes_eq text (codes "D") then Some sessions.Direct
     else if bytes_eq text (codes "B") then Some sessions.Bitmap
     else None
+
+-- The mode of a mirror is named, and is journal mode.
+abbrev pub names_journal : Given → Bool
+names_journal given = option_map_or (λ text. bytes_eq text (codes "J")) (given (codes "mode")) false
+
+-- The text, if it is another word.
+abbrev pub other_than : (word text : Text) → Option Text
+other_than word text = if bytes_eq text word then None else Some text
 
 -- The mode of a new image.
 abbrev pub image_mode_named : Text → Option ImageMode
@@ -162,6 +171,15 @@ nbd_of given = do
   hash ← hash_of given
   Some (command.Nbd (record { image = image; mode = mode; hash = hash; consent = consent_of given }))
 
+abbrev pub mirror_of : Given → Option Command
+mirror_of given = do
+  image ← given (codes "IMAGE")
+  second ← option_and_then (other_than image) (given (codes "SECOND"))
+  hash ← hash_of given
+  if names_journal given
+      then Some (command.Mirror (record { image = image; second = second; hash = hash; consent = consent_of given }))
+      else None
+
 abbrev pub dump_of : Given → Option Command
 dump_of given = do
   image ← given (codes "IMAGE")
@@ -198,6 +216,7 @@ command_named name given =
     if bytes_eq name (codes "format") then format_of given
     else if bytes_eq name (codes "run") then run_of given
     else if bytes_eq name (codes "nbd") then nbd_of given
+    else if bytes_eq name (codes "mirror") then mirror_of given
     else if bytes_eq name (codes "dump") then dump_of given
     else if bytes_eq name (codes "check") then check_of given
     else if bytes_eq name (codes "salvage") then salvage_of given

@@ -47,6 +47,10 @@ run_entry = record {
 abbrev pub nbd_entry : Entry
 nbd_entry = record run_entry { name = codes "nbd" }
 
+-- So has a mirror, of two images.
+abbrev pub mirror_entry : Entry
+mirror_entry = record run_entry { name = codes "mirror"; places = codes "IMAGE" ∷ codes "SECOND" ∷ [] }
+
 abbrev pub dump_entry : Entry
 dump_entry = record { name = codes "dump"; places = codes "IMAGE" ∷ []; options = [] }
 
@@ -80,5 +84,5 @@ exercise_entry = record {
 
 -- The commands.
 abbrev pub table : List Entry
-table = format_entry ∷ run_entry ∷ nbd_entry ∷ dump_entry ∷ check_entry ∷ salvage_entry ∷ resize_entry
-    ∷ exercise_entry ∷ []
+table = format_entry ∷ run_entry ∷ nbd_entry ∷ mirror_entry ∷ dump_entry ∷ check_entry ∷ salvage_entry
+    ∷ resize_entry ∷ exercise_entry ∷ []

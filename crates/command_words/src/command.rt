@@ -15,6 +15,8 @@ pub enum Command {
     Run(Run),
     /// Answers a stream of NBD requests on an image.
     Nbd(Nbd),
+    /// Runs a script on a mirror of two images.
+    Mirror(Mirror),
     /// Prints what an image tells of itself.
     Dump(Dump),
     /// Compares the tags of an image.
@@ -75,6 +77,19 @@ pub struct Nbd {
     /// Where a write goes first.
     pub mode: NbdMode,
     /// The hash of its tags.
+    pub hash: HashChoice,
+    /// Whether tags under a key may be made anew.
+    pub consent: Consent,
+}
+
+/// `mirror IMAGE SECOND --mode J`. It has journal mode alone.
+#[derive(Debug, Drop)]
+pub struct Mirror {
+    /// The image of its first leg.
+    pub image: FileName,
+    /// The image of its second leg: another word than the first.
+    pub second: FileName,
+    /// The hash of the tags of both.
     pub hash: HashChoice,
     /// Whether tags under a key may be made anew.
     pub consent: Consent,

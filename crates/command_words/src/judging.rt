@@ -4,13 +4,13 @@ ghost use Rattle.command_words.specs.Answers.{Answers};
 ghost use Rattle.command_words.specs.Found.{given_in};
 ghost use Rattle.command_words.specs.Judging;
 
-use crate::command::{Check, Command, Dump, Exercise, Format, Nbd, Resize, Run, Salvage};
+use crate::command::{Check, Command, Dump, Exercise, Format, Mirror, Nbd, Resize, Run, Salvage};
 use crate::given::Given;
 use crate::numbers::{number, number_or, number_within};
 use crate::table::{
     BLOCKS_PER_BIT, COUNT, IMAGE, INTEGRITY, INTERLEAVE, KEY_FILE, LEGACY_PADDING,
-    LEGACY_RECALCULATE, MODE, NO_WIPE, PLACED, RECALCULATE, SALT, SECTIONS, SECTOR_SIZE, SEED,
-    TAG_SIZE,
+    LEGACY_RECALCULATE, MODE, NO_WIPE, PLACED, RECALCULATE, SALT, SECOND, SECTIONS, SECTOR_SIZE,
+    SEED, TAG_SIZE,
 };
 use crate::values::{BlockSize, Consent, FileName, HashChoice, Interleave, Mode, NbdMode};
 use crate::words_fault::WordsFault;
@@ -30,6 +30,7 @@ pub(crate) fn command_named(
         "format" => format(alloc, given),
         "run" => run(alloc, given),
         "nbd" => nbd(alloc, given),
+        "mirror" => mirror(alloc, given),
         "dump" => dump(alloc, given),
         "check" => check(alloc, given),
         "salvage" => salvage(alloc, given),
@@ -99,6 +100,24 @@ fn nbd(alloc: Global, given: &Given<'_>) -> Result<Command, WordsFault>
     }))
 }
 
+/// `mirror IMAGE SECOND --mode J`.
+fn mirror(alloc: Global, given: &Given<'_>) -> Result<Command, WordsFault>
+    ensures { Answers (Judging.mirror_of (given_in given.now)) result }
+{
+    let image = image(alloc, given)?;
+    let second = second(alloc, given, image.as_str())?;
+    let hash = hash(alloc, given)?;
+    if !names_journal(given) {
+        return Err(WordsFault::Refused);
+    }
+    Ok(Command::Mirror(Mirror {
+        image,
+        second,
+        hash,
+        consent: consent(given),
+    }))
+}
+
 /// `dump IMAGE`.
 fn dump(alloc: Global, given: &Given<'_>) -> Result<Command, WordsFault>
     ensures { Answers (Judging.dump_of (given_in given.now)) result }
@@ -163,6 +182,17 @@ fn image(alloc: Global, given: &Given<'_>) -> Result<FileName, WordsFault>
     Ok(FileName::new(alloc, name)?)
 }
 
+/// The image of a mirror's second leg. It is another word than that of the first.
+fn second(alloc: Global, given: &Given<'_>, image: &str) -> Result<FileName, WordsFault>
+    ensures { Answers (option_and_then (Judging.other_than image.now) (given_in given.now SECOND.now)) result }
+{
+    let name = given.value(SECOND).ok_or(WordsFault::Refused)?;
+    if name == image {
+        return Err(WordsFault::Refused);
+    }
+    Ok(FileName::new(alloc, name)?)
+}
+
 /// The hash, and the file of its key, which is given exactly where the hash is keyed.
 fn hash(alloc: Global, given: &Given<'_>) -> Result<HashChoice, WordsFault>
     ensures { Answers (Judging.hash_of (given_in given.now)) result }
@@ -201,6 +231,13 @@ fn nbd_mode(given: &Given<'_>) -> Option<NbdMode>
         "B" => Some(NbdMode::Bitmap),
         _ => None,
     }
+}
+
+/// Whether the words name journal mode, which is the one that a mirror has. It is no default.
+fn names_journal(given: &Given<'_>) -> bool
+    ensures { result ≡ Judging.names_journal (given_in given.now) }
+{
+    given.value(MODE).is_some_and(|text| text == "J")
 }
 
 /// Whether tags under a key may be made anew. It may be said in every mode.

@@ -17,7 +17,7 @@ mod table;
 mod values;
 mod words_fault;
 
-pub use command::{Check, Command, Dump, Exercise, Format, Nbd, Resize, Run, Salvage};
+pub use command::{Check, Command, Dump, Exercise, Format, Mirror, Nbd, Resize, Run, Salvage};
 pub use parsing::parse;
 pub use plain_law::plain_words_are_their_command;
 pub use values::{

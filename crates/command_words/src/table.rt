@@ -33,6 +33,9 @@ pub(crate) struct CommandRow {
 /// The place of the image.
 pub(crate) const IMAGE: &str = "IMAGE";
 
+/// The place of the image of a mirror's second leg.
+pub(crate) const SECOND: &str = "SECOND";
+
 /// The place of the number that decides an exercise.
 pub(crate) const SEED: &str = "SEED";
 
@@ -98,7 +101,7 @@ pub(crate) const NO_WIPE: &str = "no-wipe";
 pub(crate) const RECALCULATE: &str = "recalculate";
 
 /// The table. Whatever comes to it is one row here, or one option in a row.
-static COMMANDS: [CommandRow; 8] = [
+static COMMANDS: [CommandRow; 9] = [
     CommandRow {
         name: "format",
         places: &[IMAGE],
@@ -178,6 +181,28 @@ static COMMANDS: [CommandRow; 8] = [
     CommandRow {
         name: "nbd",
         places: &[IMAGE],
+        options: &[
+            OptionRow {
+                name: MODE,
+                takes: Takes::Value,
+            },
+            OptionRow {
+                name: INTEGRITY,
+                takes: Takes::Value,
+            },
+            OptionRow {
+                name: KEY_FILE,
+                takes: Takes::Value,
+            },
+            OptionRow {
+                name: LEGACY_RECALCULATE,
+                takes: Takes::Nothing,
+            },
+        ],
+    },
+    CommandRow {
+        name: "mirror",
+        places: &[IMAGE, SECOND],
         options: &[
             OptionRow {
                 name: MODE,

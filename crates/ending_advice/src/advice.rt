@@ -9,11 +9,11 @@ struct Advice {
 }
 
 /// A longer beginning stands before one that it begins with.
-static ADVICE: [Advice; 28] = [
+static ADVICE: [Advice; 29] = [
     Advice {
         line: "fault words",
-        text: "these words are no command. The commands are format, dump, check, salvage, resize, run, nbd and \
-            exercise: `man integrity` has their words, and so has docs/COMMANDS.md",
+        text: "these words are no command. The commands are format, dump, check, salvage, resize, run, nbd, \
+            mirror and exercise: `man integrity` has their words, and so has docs/COMMANDS.md",
     },
     Advice {
         line: "fault key empty",
@@ -46,6 +46,11 @@ static ADVICE: [Advice; 28] = [
         line: "fault disk",
         text: "a call of the disk failed. Open the image again only once the system holds nothing of it any more \
             (unmount, `blockdev --flushbufs`, a boot): the next opening recovers it",
+    },
+    Advice {
+        line: "fault legs ",
+        text: "the two images differ in how many blocks they have (the first and the third number), or in how many \
+            bytes a block has (the second and the fourth): a mirror is of two that are alike",
     },
     Advice {
         line: "fault memory",
@@ -138,6 +143,26 @@ static ADVICE: [Advice; 28] = [
     },
 ];
 
+/// How a last line begins by which an image is refused. Behind it stands why.
+const IMAGE: &str = "fault image ";
+
+/// The same of the second image of a mirror.
+const SECOND: &str = "fault second ";
+
+/// Whether a last line begins so, or tells of a second image what such a line tells of an image.
+fn begins_so(line: &[u8], beginning: &str) -> bool {
+    if line.starts_with(beginning.as_bytes()) {
+        return true;
+    }
+    let Some(cause) = beginning.strip_prefix(IMAGE) else {
+        return false;
+    };
+    match line.get(SECOND.len()..) {
+        Some(told) => line.starts_with(SECOND.as_bytes()) && told.starts_with(cause.as_bytes()),
+        None => false,
+    }
+}
+
 /// The sentence for a command whose last line begins with these bytes, if there is one. `error` is what the system has
 /// answered to the disk's last call that failed.
 pub fn advice_on(line: &[u8], error: Option<ErrorKind>) -> Option<&'static str> {
@@ -147,7 +172,7 @@ pub fn advice_on(line: &[u8], error: Option<ErrorKind>) -> Option<&'static str> 
         return Some(advice);
     }
     for advice in &ADVICE {
-        if line.starts_with(advice.line.as_bytes()) {
+        if begins_so(line, advice.line) {
             return Some(advice.text);
         }
     }

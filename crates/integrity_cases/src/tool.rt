@@ -14,12 +14,14 @@ impl Command for Tool {
         alloc: Global,
         words: &[String],
         disk: &mut CutDisk,
+        second: &mut CutDisk,
         key: &mut WatchedFile<'_>,
         script: &mut WatchedSource<'_>,
         out: &mut WatchedSink,
     ) -> u8 {
         let mut outside = Outside {
             disk,
+            second,
             key,
             script,
             out,

@@ -1,9 +1,10 @@
 //! The program: its files, its standard input and output, and its status.
 //!
-//! What it does is `integrity` of `integrity_tool`, which is proved over any disk, key, script and sink. Here these are
-//! those of `file_disk` and `file_stream`, over the files of the system: text goes out by whole lines, and the replies of a
-//! session each at once. What is shown on the standard error beside it, how far long work is and what an ending means,
-//! changes none of these (`watched_disk`, `progress_line`, `ending_advice`).
+//! What it does is `integrity` of `integrity_tool`, which is proved over any disks, key, script and sink. Here these
+//! are those of `file_disk` and `file_stream`, over the files of the system: text goes out by whole lines, and the
+//! replies of a session each at once. The file of a second image is opened only where the words name one. What is shown
+//! on the standard error beside it, how far long work is and what an ending means, changes none of these
+//! (`watched_disk`, `progress_line`, `ending_advice`).
 #![tactic(auto)]
 
 use ending_advice::{Beginning, LastLine, advice_on, advice_on_session};
@@ -88,6 +89,23 @@ fn advise<R: Eprint>(rt: &R, advice: Option<&str>, error: Option<io::Error>) {
     };
 }
 
+/// What lies outside the program.
+fn outside<'o, D, E, K, S, O>(
+    disk: &'o mut D,
+    second: &'o mut E,
+    key: &'o mut K,
+    script: &'o mut S,
+    out: &'o mut O,
+) -> Outside<'o, D, E, K, S, O> {
+    Outside {
+        disk,
+        second,
+        key,
+        script,
+        out,
+    }
+}
+
 fn main(rt: HostRuntime) -> ExitCode {
     let words = words_of(&rt);
     let is_session = is_session(&words);
@@ -95,6 +113,7 @@ fn main(rt: HostRuntime) -> ExitCode {
     let is_advised = wish(&rt, "YOVAMELIS_ADVICE").unwrap_or(true);
     let progress = Progress::new(&rt, course_of(&words), is_shown);
     let mut disk = WatchedDisk::new(FileDisk::new(StdFolder::new(&rt)), progress);
+    let mut second = FileDisk::new(StdFolder::new(&rt));
     let mut key = FileSource::new(StdInputs::new(&rt));
     let mut script = OpenSource::new(StdInput::new(rt.reader()));
     let output = ClearedOutput::new(&rt, StdOutput::new(&rt), is_shown);
@@ -103,12 +122,7 @@ fn main(rt: HostRuntime) -> ExitCode {
     };
     if is_session {
         let mut out = PieceSink::new(Beginning::new(output));
-        let mut outside = Outside {
-            disk: &mut disk,
-            key: &mut key,
-            script: &mut script,
-            out: &mut out,
-        };
+        let mut outside = outside(&mut disk, &mut second, &mut key, &mut script, &mut out);
         let status = outside.integrity(rt.alloc(), &words);
         if is_advised {
             advise_on_session(&rt, out.file().bytes(), status, disk.disk().last_error());
@@ -116,15 +130,14 @@ fn main(rt: HostRuntime) -> ExitCode {
         return ExitCode::from(status);
     }
     let mut out = LineSink::new(LastLine::new(output));
-    let mut outside = Outside {
-        disk: &mut disk,
-        key: &mut key,
-        script: &mut script,
-        out: &mut out,
-    };
+    let mut outside = outside(&mut disk, &mut second, &mut key, &mut script, &mut out);
     let status = outside.integrity(rt.alloc(), &words);
     if is_advised {
-        advise_on_line(&rt, out.file().line(), disk.disk().last_error());
+        advise_on_line(
+            &rt,
+            out.file().line(),
+            disk.disk().last_error().or(second.last_error()),
+        );
     }
     ExitCode::from(status)
 }

@@ -7,8 +7,8 @@ use Rattle.run_model.specs.declared.key_refusal.KeyRefusal.{KeyRefusal}
 use Rattle.run_model.specs.declared.key_refusal.KeyRefusal.TheVariants.{Empty, Long}
 use Rattle.command_words.specs.declared.values.HashChoice.{HashChoice}
 use Rattle.command_words.specs.declared.values.HashChoice.TheVariants.{HmacSha256, Sha256}
-use Rattle.command_task.specs.declared.asked.Asked.{Asked}
-use Rattle.command_task.specs.Words.{asked_of, key_file_of, key_file_of_asked}
+use Rattle.command_task.specs.declared.asked.Asking.{Asking}
+use Rattle.command_task.specs.Words.{asking_of, key_file_of, key_file_of_asking}
 use Rattle.command_ending.specs.Ended.{ending_of}
 use Rattle.command_ending.specs.declared.ended.Ended.{Ended}
 use Rattle.command_ending.specs.declared.ended.Ended.TheVariants as Endings
@@ -105,12 +105,12 @@ not_read (Some file) named left key used is_read same none = λ bytes has. (
 -- Where words are no command no key file is named, and where there is no memory for them none is read.
 pub words_unread : {K : Type 0} (words : List (List ℕ)) (named : K → List ℕ → Option (List ℕ))
     (left : K → Option (List ℕ)) (key : K) (ended : Ended) → (ended ≡ Endings.Refused refusals.Words) ⊎ (ended ≡ Endings.Memory)
-    → (ended ≡ Endings.Refused refusals.Words → asked_of words ≡ None)
-    → ReadsKey (key_file_of_asked (asked_of words)) named left key key (HasKeyRead ended)
+    → (ended ≡ Endings.Refused refusals.Words → asking_of words ≡ None)
+    → ReadsKey (key_file_of_asking (asking_of words)) named left key key (HasKeyRead ended)
 words_unread words named left key ended (inl is) none =
-    subst (λ (a : Option Asked). ReadsKey (key_file_of_asked a) named left key key (HasKeyRead ended)) (sym (none is)) refl
+    subst (λ (a : Option Asking). ReadsKey (key_file_of_asking a) named left key key (HasKeyRead ended)) (sym (none is)) refl
 words_unread words named left key ended (inr is) none =
-    not_read (key_file_of_asked (asked_of words)) named left key key (HasKeyRead ended) refl
+    not_read (key_file_of_asking (asking_of words)) named left key key (HasKeyRead ended) refl
     (λ read. subst HasKeyRead is read)
 
 -- Where neither status 5 nor 7 tells of it, the key file was read.

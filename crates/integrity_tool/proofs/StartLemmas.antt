@@ -11,7 +11,9 @@ use Rattle.command_ending.specs.Ended.{ending_of}
 use Rattle.command_ending.specs.declared.ended.Ended.{Ended}
 use Rattle.command_ending.specs.declared.ended.Ended.TheVariants as Endings
 use Rattle.command_task.specs.declared.asked.Asked.{Asked}
-use Rattle.command_task.specs.Words.{asked_of, key_file_of, key_file_of_asked}
+use Rattle.command_task.specs.declared.asked.Asking.{Asking}
+use Rattle.command_task.specs.declared.asked.Asking.TheVariants.{OneImage}
+use Rattle.command_task.specs.Words.{asked_of, asking_of, key_file_of, key_file_of_asking}
 use Rattle.integrity_tool.specs.KeyFile.{HasHash, IsKeyRefused, IsKeyed}
 use Rattle.command_model.specs.KeyFile.{HasFile}
 use Rattle.integrity_tool.specs.Top.{HasMomentsIn, IsGiven, IsLeftClosed, image_in, outset_in}
@@ -29,6 +31,7 @@ use Rattle.command_model.specs.Outset.{geometry_on}
 use Rattle.run_model.specs.declared.outer.Outer.TheVariants as outers
 use Rattle.command_ending.specs.declared.refusal.Refusal.TheVariants as refusals
 use Rattle.command_task.proofs.OutsetLemmas.{IsSound, sound_for}
+use Rattle.integrity_tool.proofs.WorldLemmas.{asked_none, asked_one}
 use Rattle.command_task.proofs.UnbegunLemmas.{before_kept, kept_for, nothing_begun, refused_begun, untouched_kept}
 
 -- ---- by what a command is given
@@ -60,12 +63,12 @@ module _ (given : Given) (words : List (List ℕ)) (world : World) (is : IsGiven
   )
 
   -- The words ask for nothing.
-  pub words_first : asked_of words ≡ None
+  pub words_first : asking_of words ≡ None
       → HasRunIn (outset_in given) Lines given.content given.script (Refused ByWords) (image_in words world).moments held held
       × HasMomentsIn given (image_in words world).moments (image_in words world).moments
-  words_first none = refused_first (Refused ByWords) (outset_asked None none)
+  words_first none = refused_first (Refused ByWords) (outset_asked None (asked_none words none))
 
-  pub stopped_at_words : (ended : Ended) → (ended ≡ Endings.Refused refusals.Words) ⊎ (ended ≡ Endings.Memory) → (ended ≡ Endings.Refused refusals.Words → asked_of words ≡ None)
+  pub stopped_at_words : (ended : Ended) → (ended ≡ Endings.Refused refusals.Words) ⊎ (ended ≡ Endings.Memory) → (ended ≡ Endings.Refused refusals.Words → asking_of words ≡ None)
       → HasRunIn (outset_in given) Lines given.content given.script (ending_of ended) (image_in words world).moments held held
       × HasMomentsIn given (image_in words world).moments (image_in words world).moments
   stopped_at_words ended ends none = elim ends [
@@ -77,9 +80,12 @@ module _ (given : Given) (words : List (List ℕ)) (world : World) (is : IsGiven
         × HasMomentsIn given (image_in words world).moments (image_in words world).moments) (sym memory) (outside_first NoMemory tt (image_in words world) refl)
   ]
 
-  module _ (asked : Asked) (asks : asked_of words ≡ Some asked) where
+  module _ (asked : Asked) (asking : asking_of words ≡ Some (OneImage asked)) where
+    asks : asked_of words ≡ Some asked
+    asks = asked_one words asked asking
+
     has_key : HasFile (key_file_of asked.hash) world.keys given.key_bytes
-    has_key = subst (λ (o : Option Asked). HasFile (key_file_of_asked o) world.keys given.key_bytes) asks is.key
+    has_key = subst (λ (o : Option Asking). HasFile (key_file_of_asking o) world.keys given.key_bytes) asking is.key
 
     -- The key file, or its source, ended it.
     pub stopped_at_key : (faults_before faults : ℕ) (ended : Ended) → IsKeyRefused (key_file_of asked.hash) world.keys faults_before faults ended

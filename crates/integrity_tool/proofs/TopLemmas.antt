@@ -27,7 +27,7 @@ use Rattle.command_task.specs.Telling.{last_text}
 use Rattle.integrity_tool.specs.Top.{IsCountedBy, outset_in}
 use Rattle.command_model.specs.Given.{Given, TellsIn, TellsRun}
 use Rattle.command_model.specs.Status.{HasStatus}
-use Rattle.command_model.specs.World.{Counts, rises}
+use Rattle.command_model.specs.World.{Counts, either_rises, rises}
 use Rattle.command_task.proofs.EndedLemmas.{same_ended}
 use Rattle.command_task.proofs.RunningLemmas.{told_nothing}
 use Rattle.run_model.specs.declared.outer.Outer.TheVariants as outers
@@ -51,6 +51,17 @@ cause_later first mid sink later (Failed outers.Key) cause = cause
 cause_later first mid sink later (Failed outers.Script) cause = cause
 cause_later first mid sink later (Failed outers.Sink) cause = rose_later _ _ _ cause later
 cause_later first mid sink later NoMemory cause = tt
+
+-- So it may where either disk counts.
+pub either_later : (first mid : Counts) (sink : ℕ) → mid.sink ≤ sink → (ending : Ending) → HasCauseIn (either_rises first mid) ending
+    → HasCauseIn (either_rises first (record mid { sink = sink })) ending
+either_later first mid sink later (Complete found_fault) cause = tt
+either_later first mid sink later (Refused refusal) cause = tt
+either_later first mid sink later (Failed outers.Disk) cause = cause
+either_later first mid sink later (Failed outers.Key) cause = cause
+either_later first mid sink later (Failed outers.Script) cause = cause
+either_later first mid sink later (Failed outers.Sink) cause = rose_later _ _ _ cause later
+either_later first mid sink later NoMemory cause = tt
 
 -- Words, or want of memory, rest on no fault.
 pub cause_at_words : (faults : Faults) (ended : Ended) → (ended ≡ Endings.Refused refusals.Words) ⊎ (ended ≡ Endings.Memory) → HasCauseIn faults (ending_of ended)
@@ -93,7 +104,7 @@ status_complete first last status low found result is counted = record {
   of_disk = λ told. absurd (omega (arith, low, told));
   of_sources = λ told. absurd (omega (arith, low, told));
   of_sink = λ told. absurd (omega (arith, low, told));
-  disk_passed = λ other. counted.disk.passed (λ ended. absurd (cc));
+  disk_passed = λ other. (counted.disk.passed (λ ended. absurd (cc)), counted.second.passed (λ ended. absurd (cc)));
   sources_passed = λ other. (counted.key.passed (λ ended. absurd (cc)), counted.script.passed (λ ended. absurd (cc)));
   sink_passed = λ told. counted.sink.passed (λ ended. absurd (cc));
 }
@@ -119,7 +130,7 @@ refused_is_low ByLength = omega arith
 
 -- Where its last line is printed, the sink's count may have risen since.
 module _ {T : Type 0} (first mid : Counts) (sink : ℕ) where
-  pub status_ended : (ended : Ended) → HasCauseIn (rises first (record mid { sink = sink })) (ending_of ended)
+  pub status_ended : (ended : Ended) → HasCauseIn (either_rises first (record mid { sink = sink })) (ending_of ended)
       → IsCountedBy {R = T} (Err ended) first mid → HasStatus first (record mid { sink = sink }) (status_of (ending_of ended))
   status_ended (Endings.Refused refusal) cause counted =
       let low : refused_status (refusal_of refusal) ≤ 3 = refused_is_low (refusal_of refusal) in
@@ -128,7 +139,7 @@ module _ {T : Type 0} (first mid : Counts) (sink : ℕ) where
         of_disk = λ is. absurd (omega (arith, low, is));
         of_sources = λ is. absurd (omega (arith, low, is));
         of_sink = λ is. absurd (omega (arith, low, is));
-        disk_passed = λ other. counted.disk.passed (λ same. absurd (cc));
+        disk_passed = λ other. (counted.disk.passed (λ same. absurd (cc)), counted.second.passed (λ same. absurd (cc)));
         sources_passed = λ other. (counted.key.passed (λ same. absurd (cc)), counted.script.passed (λ same. absurd (cc)));
         sink_passed = λ is. absurd (omega (arith, refused_is_high (refusal_of refusal), is));
       }
@@ -146,7 +157,7 @@ module _ {T : Type 0} (first mid : Counts) (sink : ℕ) where
     of_disk = λ is. absurd (omega (arith, is));
     of_sources = λ is. inl cause;
     of_sink = λ is. absurd (omega (arith, is));
-    disk_passed = λ other. counted.disk.passed (λ same. absurd (cc));
+    disk_passed = λ other. (counted.disk.passed (λ same. absurd (cc)), counted.second.passed (λ same. absurd (cc)));
     sources_passed = λ other. absurd (other refl);
     sink_passed = λ is. absurd (omega (arith, is));
   }
@@ -155,7 +166,7 @@ module _ {T : Type 0} (first mid : Counts) (sink : ℕ) where
     of_disk = λ is. absurd (omega (arith, is));
     of_sources = λ is. inr cause;
     of_sink = λ is. absurd (omega (arith, is));
-    disk_passed = λ other. counted.disk.passed (λ same. absurd (cc));
+    disk_passed = λ other. (counted.disk.passed (λ same. absurd (cc)), counted.second.passed (λ same. absurd (cc)));
     sources_passed = λ other. absurd (other refl);
     sink_passed = λ is. absurd (omega (arith, is));
   }
@@ -164,7 +175,7 @@ module _ {T : Type 0} (first mid : Counts) (sink : ℕ) where
     of_disk = λ is. absurd (omega (arith, is));
     of_sources = λ is. absurd (omega (arith, is));
     of_sink = λ is. cause;
-    disk_passed = λ other. counted.disk.passed (λ same. absurd (cc));
+    disk_passed = λ other. (counted.disk.passed (λ same. absurd (cc)), counted.second.passed (λ same. absurd (cc)));
     sources_passed = λ other. (counted.key.passed (λ same. absurd (cc)), counted.script.passed (λ same. absurd (cc)));
     sink_passed = λ is. absurd (omega (arith, is));
   }
@@ -173,20 +184,20 @@ module _ {T : Type 0} (first mid : Counts) (sink : ℕ) where
     of_disk = λ is. absurd (omega (arith, is));
     of_sources = λ is. absurd (omega (arith, is));
     of_sink = λ is. absurd (omega (arith, is));
-    disk_passed = λ other. counted.disk.passed (λ same. absurd (cc));
+    disk_passed = λ other. (counted.disk.passed (λ same. absurd (cc)), counted.second.passed (λ same. absurd (cc)));
     sources_passed = λ other. (counted.key.passed (λ same. absurd (cc)), counted.script.passed (λ same. absurd (cc)));
     sink_passed = λ is. absurd (omega (arith, is));
   }
 
 -- What ended a command by the sink has status 6.
-sink_status : {T : Type 0} (ended : Ended) (r : Result T Ended) → r ≡ Err ended → r ≡ Err (Endings.Failed outers.Sink) → status_of (ending_of ended) ≡ 6
+pub sink_status : {T : Type 0} (ended : Ended) (r : Result T Ended) → r ≡ Err ended → r ≡ Err (Endings.Failed outers.Sink) → status_of (ending_of ended) ≡ 6
 sink_status ended r is is_sink = ap (λ (e : Ended). status_of (ending_of e)) (same_ended ended (Endings.Failed outers.Sink) r is is_sink)
 
 -- ---- the last line
 
 -- What stands behind the text: its last line, or a part of it, where lines are written, and nothing behind replies. With another status
 -- than 6 the sink has failed in that line at most.
-abbrev EndsWith : Telling → Ending → (line : List ℕ) → (status : ℕ) → (first last : Counts) → Type 0
+abbrev pub EndsWith : Telling → Ending → (line : List ℕ) → (status : ℕ) → (first last : Counts) → Type 0
 EndsWith Lines ending line status first last =
     IsLastLine (Rose first.sink last.sink) ending line × (status ≢ 6 → line ≡ fault_text ending → last.sink ≡ first.sink)
 EndsWith Replies ending line status first last = (line ≡ []) × (status ≢ 6 → last.sink ≡ first.sink)
@@ -291,11 +302,11 @@ module _ (given : Given) (ending : Ending) (moments : List Content) (held_before
     sink_passed = λ other whole. end.1 other;
   })
 
-no_line : (held : Option (List ℕ)) → held ≡ option_map (with_bytes []) held
+pub no_line : (held : Option (List ℕ)) → held ≡ option_map (with_bytes []) held
 no_line None = refl
 no_line (Some bytes) = ap (λ (x : List ℕ). Some x) (sym (append-nil bytes))
 
-ends_complete : (telling : Telling) (found : Bool) (status : ℕ) (first last : Counts) → last.sink ≡ first.sink
+pub ends_complete : (telling : Telling) (found : Bool) (status : ℕ) (first last : Counts) → last.sink ≡ first.sink
     → EndsWith telling (Complete found) [] status first last
 ends_complete Lines found status first last same = (inl refl, λ other whole. same)
 ends_complete Replies found status first last same = (refl, λ other. same)
@@ -313,12 +324,12 @@ tells_complete given telling found moments held_before held status before d run 
 not_whole : (count : ℕ) (line : List ℕ) → count < length line → take count line ≡ line → ⊥
 not_whole count line short is = omega (arith, short, length-take count line, ap length is)
 
-ends_early : (telling : Telling) (ending : Ending) (status : ℕ) (first last : Counts) → (status ≢ 6 → last.sink ≡ first.sink)
+pub ends_early : (telling : Telling) (ending : Ending) (status : ℕ) (first last : Counts) → (status ≢ 6 → last.sink ≡ first.sink)
     → EndsWith telling ending (last_text telling ending) status first last
 ends_early Lines ending status first last passed = (inl refl, λ other whole. passed other)
 ends_early Replies ending status first last passed = (refl, passed)
 
-ends_torn : (telling : Telling) (ending : Ending) (status : ℕ) (first last : Counts) (count : ℕ) → count < length (last_text telling ending)
+pub ends_torn : (telling : Telling) (ending : Ending) (status : ℕ) (first last : Counts) (count : ℕ) → count < length (last_text telling ending)
     → Rose first.sink last.sink → EndsWith telling ending (take count (last_text telling ending)) status first last
 ends_torn Lines ending status first last count short rose = (inr (rose, count, short, refl), λ other whole. absurd (not_whole count _ short whole))
 ends_torn Replies ending status first last count short rose = absurd (omega (arith, short))

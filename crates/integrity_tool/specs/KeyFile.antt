@@ -36,8 +36,8 @@ ReadsKey (Some file) named left key used is_read = ForSome (named key file) (λ 
     TakesAtMost most_read (Some bytes) (named used file) × (is_read → left used ≡ Some (drop most_read bytes)))
 
 -- The same, of all that lies outside.
-abbrev pub ReadsKeyFile : {D K S O : Type 0} → Option (List ℕ) → (Outside D K S O → World)
-    → (first last : Outside D K S O) → (is_read : Type 0) → Type 0
+abbrev pub ReadsKeyFile : {D E K S O : Type 0} → Option (List ℕ) → (Outside D E K S O → World)
+    → (first last : Outside D E K S O) → (is_read : Type 0) → Type 0
 ReadsKeyFile None world first last is_read = last.key.now ≡ first.key.now
 ReadsKeyFile (Some file) world first last is_read = ForSome ((world first).keys file) (λ bytes.
     TakesAtMost most_read (Some bytes) ((world last).keys file)

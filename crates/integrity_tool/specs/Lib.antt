@@ -1,3 +1,4 @@
 pub mod KeyFile
 pub mod Ends
 pub mod Top
+pub mod Mirrored

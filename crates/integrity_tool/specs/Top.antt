@@ -26,21 +26,23 @@ use Rattle.command_model.specs.Taken.{HasTaken}
 use Rattle.script_lines.specs.Ends.{IsCounted}
 use Rattle.command_task.specs.Serving.{most_taken_for}
 use Rattle.command_task.specs.Unopened.{IsUnopenedFor}
-use Rattle.command_task.specs.Words.{HasNoScript, asked_of, image_name, key_file_of_asked}
-use Rattle.command_model.specs.World.{Counts, World, rises}
+use Rattle.command_task.specs.Words.{HasNoScript, HasOneImage, asked_of, asking_of, image_name, key_file_of_asking}
+use Rattle.command_task.specs.Words.{second_name}
+use Rattle.command_model.specs.World.{Counts, World, either_rises, rises}
 use Rattle.command_model.specs.Given.{Given, TellsIn}
 use Rattle.run_model.specs.declared.outer.Outer.TheVariants as outers
 
 -- ---- what a command is given
 
--- What stands under the name of the image that a command names.
+-- What stands under the name of the image that a command names, of two the first.
 abbrev pub image_in : (command : List (List ℕ)) → World → NamedDisk
 image_in command world = world.named (image_name command)
 
--- A command is given this where the source of keys, the disk and the source of the script tell what they have.
+-- A command of one image is given this where the keys, the disk and the script's source tell what they have.
 pub record IsGiven (command : List (List ℕ)) (world : World) (given : Given) : Type 0 where
   pub words_are : given.words ≡ command
-  pub key : HasFile (key_file_of_asked (asked_of command)) world.keys given.key_bytes
+  pub one : HasOneImage (asking_of command)
+  pub key : HasFile (key_file_of_asking (asking_of command)) world.keys given.key_bytes
   pub sectors : given.sectors ≡ (image_in command world).sectors
   pub content : content_now (image_in command world).moments ≡ Some given.content
   pub script_is : world.script ≡ Some given.script
@@ -78,8 +80,8 @@ ReadsNoFurther given first last =
     HasReadIn (outset_in given) given.script last.script first.held last.held (first.faults.script < last.faults.script)
 
 -- What a command with this status keeps of the world that gave it this: what it tells, where the sink tells what it
--- holds; what stands at each moment, and in which order; what a close leaves, once it came to its end; that for want of
--- memory no device was opened but behind the script's first byte; and how much of the script it takes.
+-- holds; what stands at each moment, in which order; what a close leaves; that for want of memory no device was opened
+-- but behind the script's first byte; and how much of the script it takes.
 pub record Keeps (command : List (List ℕ)) (given : Given) (status : ℕ) (first last : World) : Type 0 where
   pub tells : (before : List ℕ) → first.held ≡ Some before → IsSomeAnd last.held (λ after.
       IsSomeAnd (content_now (image_in command last).moments)
@@ -111,14 +113,20 @@ RunsGiven world command telling result first last = (given : Given) → IsGiven 
 
 -- ---- its status
 
--- What ends its run is the disk, a source or the sink only where the count of its faults rose,
+-- What ends its run is a disk, a source or the sink only where the count of its faults rose,
 abbrev pub HasCauseOfCommand : {T R : Type 0} → (T → World) → Result R Ended → (first last : T) → Type 0
 HasCauseOfCommand world result first last =
+    IfErr result (λ ended. HasCauseIn (either_rises (world first).faults (world last).faults) (ending_of ended))
+
+-- on one image the first disk's count;
+abbrev pub HasCauseOnImage : {T R : Type 0} → (T → World) → Result R Ended → (first last : T) → Type 0
+HasCauseOnImage world result first last =
     IfErr result (λ ended. HasCauseIn (rises (world first).faults (world last).faults) (ending_of ended))
 
 -- and each count rises only where that is what ended it.
 pub record IsCountedBy {R : Type 0} (result : Result R Ended) (before after : Counts) : Type 0 where
   pub disk : IsCounted outers.Disk before.disk after.disk result
+  pub second : IsCounted outers.Disk before.second after.second result
   pub key : IsCounted outers.Key before.key after.key result
   pub script : IsCounted outers.Script before.script after.script result
   pub sink : IsCounted outers.Sink before.sink after.sink result
@@ -128,38 +136,47 @@ IsCountedInCommand world result first last = IsCountedBy result (world first).fa
 
 -- ---- what it leaves alone, over the objects themselves
 
--- The disk is not called, and the script not read.
-abbrev pub AreUncalled : {D K S O : Type 0} → (first last : Outside D K S O) → Type 0
-AreUncalled first last = (last.disk.now ≡ first.disk.now) × (last.script.now ≡ first.script.now)
+-- No disk is called, and the script is not read.
+abbrev pub AreUncalled : {D E K S O : Type 0} → (first last : Outside D E K S O) → Type 0
+AreUncalled first last =
+    (last.disk.now ≡ first.disk.now) × (last.second.now ≡ first.second.now) × (last.script.now ≡ first.script.now)
 
 -- The words name a key file whose bytes are no key.
 pub record HasWrongKey (command : List (List ℕ)) (world : World) : Type 0 where
   pub bytes : List ℕ
-  pub has : HasFile (key_file_of_asked (asked_of command)) world.keys bytes
+  pub has : HasFile (key_file_of_asking (asking_of command)) world.keys bytes
   pub refusal : KeyRefusal
-  pub refused : key_by (key_file_of_asked (asked_of command)) bytes ≡ Err refusal
+  pub refused : key_by (key_file_of_asking (asking_of command)) bytes ≡ Err refusal
 
--- Words that are no command end it so, and touch neither the disk nor a source. A key that is refused is so before the
--- disk is called and the script is read, and so is one whose source fails. The script is not read where the command
--- ends before that, or has none.
-pub record CallsOnly {D K S O : Type 0} (world : Outside D K S O → World) (command : List (List ℕ)) (ends : Ends)
-    (first last : Outside D K S O) : Type 0 where
-  pub words : asked_of command ≡ None → ends.by_words × (last.key.now ≡ first.key.now) × AreUncalled first last
+-- Words that are no command end it so, and touch neither a disk nor a source. A key that is refused, or whose source
+-- fails, is so before a disk is called and the script is read. The second disk is called for a second image alone. The
+-- script is not read where the command ends before that, or has none.
+pub record CallsOnly {D E K S O : Type 0} (world : Outside D E K S O → World) (command : List (List ℕ)) (ends : Ends)
+    (first last : Outside D E K S O) : Type 0 where
+  pub words : asking_of command ≡ None → ends.by_words × (last.key.now ≡ first.key.now) × AreUncalled first last
   pub key_first : HasWrongKey command (world first) ⊎ ((world last).faults.key ≢ (world first).faults.key)
       → AreUncalled first last
-  pub unread : ends.before_script ⊎ HasNoScript (asked_of command) → last.script.now ≡ first.script.now
+  pub second : HasOneImage (asking_of command) → last.second.now ≡ first.second.now
+  pub unread : ends.before_script ⊎ HasNoScript (asking_of command) → last.script.now ≡ first.script.now
 
 -- What it reads: of the key's source nothing but the file that the words name, and at most 4097 bytes of that; and of
 -- the script at most so many.
-pub record ReadsOnly {D K S O : Type 0} (world : Outside D K S O → World) (command : List (List ℕ)) (ends : Ends)
-    (first last : Outside D K S O) : Type 0 where
-  pub key : ReadsKeyFile (key_file_of_asked (asked_of command)) world first last ends.key_read
-  pub taken : HasTaken (most_taken_for (asked_of command)) (world first).script (world last).script
+pub record ReadsOnly {D E K S O : Type 0} (world : Outside D E K S O → World) (command : List (List ℕ)) (ends : Ends)
+    (first last : Outside D E K S O) : Type 0 where
+  pub key : ReadsKeyFile (key_file_of_asking (asking_of command)) world first last ends.key_read
+  pub taken : HasTaken (most_taken_for (asking_of command)) (world first).script (world last).script
 
--- The disk is bound to the image, once it came to its end, and the image has as many sectors as before, where the disk
--- tells its content.
+-- An image has as many sectors as before, where its disk tells its content.
+abbrev pub KeepsSectors : (before after : NamedDisk) → Type 0
+KeepsSectors before after = ForSome (content_now before.moments) (λ c. after.sectors ≡ before.sectors)
+
+-- The disk is bound to the image, and that of a second image to this, once it came to its end; and each image has as
+-- many sectors as before, where the disk tells its content.
 pub record IsOnImage {T : Type 0} (world : T → World) (command : List (List ℕ)) (ends : Ends) (first last : T)
     : Type 0 where
   pub bound : ends.complete → IsBoundTo (image_name command) (world last).bound
-  pub sectors : ForSome (content_now (image_in command (world first)).moments)
-      (λ c. (image_in command (world last)).sectors ≡ (image_in command (world first)).sectors)
+  pub sectors : KeepsSectors (image_in command (world first)) (image_in command (world last))
+  pub second_bound : ends.complete
+      → ForSome (second_name command) (λ name. IsBoundTo name (world last).second_bound)
+  pub second_sectors : ForSome (second_name command)
+      (λ name. KeepsSectors ((world first).second_named name) ((world last).second_named name))

@@ -1,15 +1,17 @@
 //! The top call: from the words to the status, on what lies outside the program.
-ghost use Rattle.std.specs.Prelude.{◌≡◌, IfErr, OnOk};
+ghost use Rattle.std.specs.Prelude.{◌≡◌, ℕ, List, Some, IfErr, OnOk};
 ghost use Rattle.std.specs.Option.{ForSome};
 ghost use Rattle.disk_model.specs.Causes.{HasCause, Rose};
 ghost use Rattle.disk_model.specs.Identity.{IsBoundTo, IsThere};
 ghost use Rattle.disk_model.specs.Moments.{content_now};
 ghost use Rattle.run_model.specs.Ending.{Complete, status_of};
 ghost use Rattle.script_text.specs.Found.{finds_fault};
+ghost use Rattle.command_task.specs.Words.{HasOneImage, IsTask, asking_of};
 ghost use Rattle.integrity_tool.specs.Ends.{ends_by};
 ghost use Rattle.command_model.specs.Ends.{ends_with};
 ghost use Rattle.script_lines.specs.Ends.{IsCounted};
-ghost use Rattle.integrity_tool.specs.Top.{CallsOnly, HasCauseOfCommand, IsCountedInCommand, IsOnImage, KeepsGiven, ReadsOnly, RunsGiven};
+ghost use Rattle.integrity_tool.specs.Mirrored.{KeepsMirrored, RunsMirrored};
+ghost use Rattle.integrity_tool.specs.Top.{CallsOnly, HasCauseOfCommand, HasCauseOnImage, IsCountedInCommand, IsOnImage, KeepsGiven, ReadsOnly, RunsGiven};
 ghost use Rattle.command_model.specs.Status.{HasStatusIn};
 ghost use Rattle.command_model.specs.Given.{texts};
 ghost use Rattle.command_model.specs.World.{World};
@@ -17,7 +19,8 @@ ghost use Rattle.command_model.specs.World.{World};
 use crate::carrying_out::carry_out;
 use crate::keyed::hash_of;
 use command_ending::{Ended, Outer};
-use command_task::{Task, Telling, put_end, words_asked};
+use command_mirror::mirror_images;
+use command_task::{Asked, AskedMirror, Asking, Task, Telling, put_end, words_asked};
 use device::OpenMode;
 use script_text::TagsFound;
 use sector_disk::{Counted, Disk, Failed};
@@ -26,9 +29,11 @@ use stream_io::{NamedSource, Sink, Source};
 
 /// What lies outside the program.
 #[derive(Drop)]
-pub struct Outside<'o, D, K, S, O> {
+pub struct Outside<'o, D, E, K, S, O> {
     /// The disk.
     pub disk: &'o mut D,
+    /// The disk of a second image. Where a command names one image it is not called.
+    pub second: &'o mut E,
     /// The source of keys.
     pub key: &'o mut K,
     /// The source of the script.
@@ -43,16 +48,19 @@ pub trait AsWorld {
     ghost world: { Self → World };
 }
 
-impl<D: Disk, K: NamedSource, S: Source, O: Sink> AsWorld for Outside<'_, D, K, S, O> {
+impl<D: Disk, E: Disk, K: NamedSource, S: Source, O: Sink> AsWorld for Outside<'_, D, E, K, S, O> {
     ghost world = { λ outside. record {
       named = D.named outside.disk.now;
       bound = (D.identity outside.disk.now).name;
+      second_named = E.named outside.second.now;
+      second_bound = (E.identity outside.second.now).name;
       keys = K.named outside.key.now;
       key = K.left outside.key.now;
       script = S.left outside.script.now;
       held = O.held outside.out.now;
       faults = record {
         disk = D.faults outside.disk.now;
+        second = E.faults outside.second.now;
         key = K.faults outside.key.now;
         script = S.faults outside.script.now;
         sink = O.faults outside.out.now;
@@ -60,12 +68,14 @@ impl<D: Disk, K: NamedSource, S: Source, O: Sink> AsWorld for Outside<'_, D, K, 
     } };
 }
 
-impl<D: Disk, K: NamedSource, S: Source, O: Sink> Outside<'_, D, K, S, O> {
+impl<D: Disk, E: Disk, K: NamedSource, S: Source, O: Sink> Outside<'_, D, E, K, S, O> {
     /// Does what the words say, and answers the status. The words are the program's name and then those of a command.
     ///
     /// The commands are `format IMAGE`, `dump IMAGE`, `check IMAGE`, `salvage IMAGE`, `resize IMAGE`, `run IMAGE` and
-    /// `nbd IMAGE` in a mode, and `exercise IMAGE SEED COUNT`. The key is bound and read, at most 4097 bytes of it,
-    /// before the image is bound, and the script of a run, or the stream of a session, only once the device is open.
+    /// `nbd IMAGE` in a mode, `mirror IMAGE SECOND` in journal mode, and `exercise IMAGE SEED COUNT`. The key is bound
+    /// and read, at most 4097 bytes of it, before an image is bound, and the script of a run, or the stream of a
+    /// session, only once the device is open. Both images of a mirror are bound before the first is opened, and both are
+    /// open before the mirror is levelled.
     ///
     /// # Statuses
     ///
@@ -74,23 +84,27 @@ impl<D: Disk, K: NamedSource, S: Source, O: Sink> Outside<'_, D, K, S, O> {
     /// - 1: it came to its end, and a reply that was taken, or a line of a check or a salvage, names a block whose
     ///   stored tag differs.
     /// - 2: the words are no command, the bytes of the key file no key, or the script or the stream is refused.
-    /// - 3: the image is refused.
-    /// - 4, 5, 6: the disk, the source of the key or of the script, or the sink failed.
+    /// - 3: an image is refused, or two whose blocks are not alike.
+    /// - 4, 5, 6: a disk, the source of the key or of the script, or the sink failed.
     /// - 7: there was no memory.
     pub fn integrity(&mut self, alloc: Global, words: &[String]) -> u8
-        // By what the command is given: the status, the text and what is left; what stands at each moment, and in which
-        // order; what the close of a device leaves; and how much of the script is taken before a line of it is run.
+        // By what a command of one image is given: the status, the text and what is left; what stands at each moment,
+        // and in which order; what the close of a device leaves; and how much of the script is taken before a line of it
+        // is run.
         ensures given { KeepsGiven ⟦<Self as AsWorld>⟧.world (texts words.now) result self.old self.new }
+        // By what a mirror is given: the same, of both disks.
+        ensures mirrored { KeepsMirrored ⟦<Self as AsWorld>⟧.world (texts words.now) result self.old self.new }
 
         // What each status but 0 to 3 comes from, and that no fault is passed over, whether the disk and the streams
         // tell what they hold or not.
         ensures status { HasStatusIn ⟦<Self as AsWorld>⟧.world result self.old self.new }
 
-        // What is called: nothing where the words are no command, and the key's source before all else.
+        // What is called: nothing where the words are no command, the key's source before all else, and the second disk
+        // only where the words name two images.
         ensures calls { CallsOnly ⟦<Self as AsWorld>⟧.world (texts words.now) (ends_with result) self.old self.new }
         // What is read: of one key file its first bytes, and of the script no more than its bound and a byte.
         ensures read { ReadsOnly ⟦<Self as AsWorld>⟧.world (texts words.now) (ends_with result) self.old self.new }
-        // Which image it is on, and that this keeps its size.
+        // Which images it is on, and that these keep their size.
         ensures image { IsOnImage ⟦<Self as AsWorld>⟧.world (texts words.now) (ends_with result) self.old self.new }
     {
         let mut telling = Telling::Lines;
@@ -108,7 +122,7 @@ impl<D: Disk, K: NamedSource, S: Source, O: Sink> Outside<'_, D, K, S, O> {
     ///
     /// # Errors
     ///
-    /// What ends it, in this order: the words, the key, the image, the script.
+    /// What ends it, in this order: the words, the key, the image, of two the first and then the second, the script.
     fn run(
         &mut self,
         alloc: Global,
@@ -118,15 +132,54 @@ impl<D: Disk, K: NamedSource, S: Source, O: Sink> Outside<'_, D, K, S, O> {
         requires lines { telling.old ≡ Telling.Lines }
 
         ensures given { RunsGiven ⟦<Self as AsWorld>⟧.world (texts words.now) telling.new result self.old self.new }
+        ensures mirrored { RunsMirrored ⟦<Self as AsWorld>⟧.world (texts words.now) telling.new result
+            self.old self.new }
 
         ensures cause { HasCauseOfCommand ⟦<Self as AsWorld>⟧.world result self.old self.new }
+        ensures image_cause { HasOneImage (asking_of (texts words.now))
+            → HasCauseOnImage ⟦<Self as AsWorld>⟧.world result self.old self.new }
+
         ensures counted { IsCountedInCommand ⟦<Self as AsWorld>⟧.world result self.old self.new }
 
         ensures calls { CallsOnly ⟦<Self as AsWorld>⟧.world (texts words.now) (ends_by result) self.old self.new }
         ensures read { ReadsOnly ⟦<Self as AsWorld>⟧.world (texts words.now) (ends_by result) self.old self.new }
         ensures image { IsOnImage ⟦<Self as AsWorld>⟧.world (texts words.now) (ends_by result) self.old self.new }
     {
-        let asked = words_asked(alloc, words)?;
+        let asking = words_asked(alloc, words)?;
+        match asking {
+            Asking::OneImage(asked) => self.run_on_image(alloc, asked, telling),
+            Asking::TwoImages(asked) => self.run_on_both(alloc, asked),
+        }
+    }
+
+    /// Does what is asked on one image: the key is read, the disk bound, and the task carried out.
+    ///
+    /// # Errors
+    ///
+    /// What ends it, in this order: the key, the image, the script.
+    fn run_on_image(
+        &mut self,
+        alloc: Global,
+        asked: Asked,
+        telling: &mut Telling,
+    ) -> Result<TagsFound, Ended>
+        requires task { IsTask asked.task }
+        requires lines { telling.old ≡ Telling.Lines }
+
+        ensures given { (command : List (List ℕ)) → asking_of command ≡ Some (Asking.OneImage asked)
+            → RunsGiven ⟦<Self as AsWorld>⟧.world command telling.new result self.old self.new }
+
+        ensures cause { HasCauseOfCommand ⟦<Self as AsWorld>⟧.world result self.old self.new }
+        ensures image_cause { HasCauseOnImage ⟦<Self as AsWorld>⟧.world result self.old self.new }
+        ensures counted { IsCountedInCommand ⟦<Self as AsWorld>⟧.world result self.old self.new }
+
+        ensures calls { (command : List (List ℕ)) → asking_of command ≡ Some (Asking.OneImage asked)
+            → CallsOnly ⟦<Self as AsWorld>⟧.world command (ends_by result) self.old self.new }
+        ensures read { (command : List (List ℕ)) → asking_of command ≡ Some (Asking.OneImage asked)
+            → ReadsOnly ⟦<Self as AsWorld>⟧.world command (ends_by result) self.old self.new }
+        ensures image { (command : List (List ℕ)) → asking_of command ≡ Some (Asking.OneImage asked)
+            → IsOnImage ⟦<Self as AsWorld>⟧.world command (ends_by result) self.old self.new }
+    {
         let hash = hash_of(alloc, self.key, &asked.hash)?;
         bind_image(self.disk, asked.image.as_str(), &asked.task)?;
         carry_out(
@@ -137,6 +190,39 @@ impl<D: Disk, K: NamedSource, S: Source, O: Sink> Outside<'_, D, K, S, O> {
             self.script,
             self.out,
             telling,
+        )
+    }
+
+    /// Does what is asked on two images: the key is read, both disks are bound, and a script is run on a mirror.
+    ///
+    /// # Errors
+    ///
+    /// What ends it, in this order: the key, the first image, the second, the blocks of both, the script.
+    fn run_on_both(&mut self, alloc: Global, asked: AskedMirror) -> Result<TagsFound, Ended>
+        ensures mirrored { (command : List (List ℕ)) → asking_of command ≡ Some (Asking.TwoImages asked)
+            → RunsMirrored ⟦<Self as AsWorld>⟧.world command Telling.Lines result self.old self.new }
+
+        ensures cause { HasCauseOfCommand ⟦<Self as AsWorld>⟧.world result self.old self.new }
+        ensures counted { IsCountedInCommand ⟦<Self as AsWorld>⟧.world result self.old self.new }
+
+        ensures calls { (command : List (List ℕ)) → asking_of command ≡ Some (Asking.TwoImages asked)
+            → CallsOnly ⟦<Self as AsWorld>⟧.world command (ends_by result) self.old self.new }
+        ensures read { (command : List (List ℕ)) → asking_of command ≡ Some (Asking.TwoImages asked)
+            → ReadsOnly ⟦<Self as AsWorld>⟧.world command (ends_by result) self.old self.new }
+        ensures image { (command : List (List ℕ)) → asking_of command ≡ Some (Asking.TwoImages asked)
+            → IsOnImage ⟦<Self as AsWorld>⟧.world command (ends_by result) self.old self.new }
+    {
+        let hash = hash_of(alloc, self.key, &asked.hash)?;
+        bind_leg(self.disk, asked.image.as_str())?;
+        bind_leg(self.second, asked.second.as_str())?;
+        mirror_images(
+            alloc,
+            self.disk,
+            self.second,
+            hash,
+            asked.consent,
+            self.script,
+            self.out,
         )
     }
 }
@@ -169,6 +255,29 @@ fn bind_image<D: Disk>(disk: &mut D, image: &str, task: &Task) -> Result<(), End
         (λ c. D.named disk.new image.now ≡ D.named disk.old image.now) }
 {
     match bind_for(disk, image, task) {
+        Ok(()) => Ok(()),
+        Err(_) => Err(Ended::Failed(Outer::Disk)),
+    }
+}
+
+/// Binds a disk to the name of an image of a mirror.
+///
+/// # Errors
+///
+/// - `Disk`: the disk failed.
+fn bind_leg<D: Disk>(disk: &mut D, image: &str) -> Result<(), Ended>
+    ensures bound { OnOk result (IsBoundTo image.now (D.identity disk.new).name) }
+    ensures found { OnOk result (IsThere (D.named disk.old image.now) (D.identity disk.new).sectors
+        (D.moments disk.new)) }
+
+    ensures disk { IfErr result (λ ended. (ended ≡ Ended.Failed Outer.Disk)
+        × Rose (D.faults disk.old) (D.faults disk.new)) }
+
+    ensures counted { IsCounted Outer.Disk (D.faults disk.old) (D.faults disk.new) result }
+    ensures same { ForSome (content_now (D.named disk.old image.now).moments)
+        (λ c. D.named disk.new image.now ≡ D.named disk.old image.now) }
+{
+    match disk.bind(image) {
         Ok(()) => Ok(()),
         Err(_) => Err(Ended::Failed(Outer::Disk)),
     }

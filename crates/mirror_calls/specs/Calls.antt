@@ -1,6 +1,5 @@
 -- What the calls of a mirror tell of each mirror that its legs are, by what each leg is before and behind a call.
 use Rattle.std.specs.Prelude.{◌≡◌, ℕ, ◌+◌, ◌^◌, ◌<◌, ◌≤◌, Bool, false, true, List, length, Option, Result, Err, IfErr, IfOk, IfSome, OnOk}
-use base.Fml.{GName}
 use Rattle.disk_model.specs.Disk.{Content, Image}
 use Rattle.device_model.specs.History.{History}
 use Rattle.device_model.specs.Submission.{blocks_in}
@@ -13,7 +12,7 @@ use Rattle.mirror_calls.specs.declared.fault.MirrorFault.TheVariants.{Broken, Me
 use Rattle.mirror_calls.specs.declared.reading.MirrorReply.{MirrorReply}
 use Rattle.mirror_calls.specs.Faults.{IsOfDisk}
 use Rattle.mirror_calls.specs.Given.{given_as, reply_as, rest_as}
-use Rattle.mirror_calls.specs.Leg.{IsLeftSince, KeepsBlocks, LegOn}
+use Rattle.mirror_calls.specs.Leg.{IsLeftSince, KeepsBlocks, LegDisk, LegOn}
 use Rattle.mirror_calls.specs.State.{AreLegs, AreReady, HasDone, format_of}
 
 -- Both legs are ready, unless the mirror is broken, and have equal blocks.
@@ -29,8 +28,8 @@ pub record Works {A B : Type 0} (a_ready : A → Type 0) (a_blocks a_size : A �
   pub whole : broken ≡ false
 
 -- So they are, and each has the blocks that it had, on the same disk.
-pub record StaysReady {A B : Type 0} (a_ready : A → Type 0) (a_blocks a_size : A → ℕ) (a_name : A → GName)
-    (b_ready : B → Type 0) (b_blocks b_size : B → ℕ) (b_name : B → GName) (a_old : A) (b_old : B) (broken : Bool)
+pub record StaysReady {A B : Type 0} (a_ready : A → Type 0) (a_blocks a_size : A → ℕ) (a_name : A → LegDisk)
+    (b_ready : B → Type 0) (b_blocks b_size : B → ℕ) (b_name : B → LegDisk) (a_old : A) (b_old : B) (broken : Bool)
     (a : A) (b : B) : Type 0 where
   pub ready : IsReady a_ready a_blocks a_size b_ready b_blocks b_size broken a b
   pub same : KeepsBlocks a_blocks a_size a_name a_old a

@@ -25,6 +25,7 @@ pub(crate) fn close_leg<'d, 'p, D: Disk>(
 
     ensures cause { HasCause (D.faults leg.entry.device.disk.now) (D.faults result.1.now) result.0 }
     ensures same_disk { result.1.ghost_name ≡ leg.entry.device.disk.ghost_name }
+    ensures identity { D.identity result.1.now ≡ D.identity leg.entry.device.disk.now }
 
     ensures moments { LeavesClosing leg.entry.device.parts
         (D.moments leg.entry.device.disk.now) (D.moments result.1.now) }
@@ -60,6 +61,8 @@ pub(crate) fn close_legs<'a, 'b, 'p, 'q, D: Disk, E: Disk>(
 
     ensures same_disk { result.1.ghost_name ≡ a.entry.device.disk.ghost_name }
     ensures same_second { result.2.ghost_name ≡ b.entry.device.disk.ghost_name }
+    ensures identity { D.identity result.1.now ≡ D.identity a.entry.device.disk.now }
+    ensures second_identity { E.identity result.2.now ≡ E.identity b.entry.device.disk.now }
 
     ensures first_moments { LeavesClosing a.entry.device.parts
         (D.moments a.entry.device.disk.now) (D.moments result.1.now) }

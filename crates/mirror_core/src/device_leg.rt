@@ -33,7 +33,7 @@ impl<'d, 'p, D: Disk> Leg for DeviceLeg<'d, 'p, D> {
 
     ghost submitted = { λ leg. leg.device.parts.common.slots.submitted };
 
-    ghost name = { λ leg. leg.device.disk.ghost_name };
+    ghost name = { λ leg. record { lent = leg.device.disk.ghost_name; identity = D.identity leg.device.disk.now } };
 
     ghost faults = { λ leg. D.faults leg.device.disk.now };
 

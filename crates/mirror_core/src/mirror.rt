@@ -80,6 +80,8 @@ pub fn close<'a, 'b, 'p, 'q, D: Disk, E: Disk>(
         × (result.2.now ≡ mirror.entry.b.device.disk.now) }
     ensures same_disk { result.1.ghost_name ≡ mirror.entry.a.device.disk.ghost_name }
     ensures same_second { result.2.ghost_name ≡ mirror.entry.b.device.disk.ghost_name }
+    ensures identity { D.identity result.1.now ≡ D.identity mirror.entry.a.device.disk.now }
+    ensures second_identity { E.identity result.2.now ≡ E.identity mirror.entry.b.device.disk.now }
 
     ensures first_moments { LeavesClosing mirror.entry.a.device.parts
         (D.moments mirror.entry.a.device.disk.now) (D.moments result.1.now) }

@@ -37,6 +37,7 @@ pub(crate) fn run_whole<'d, 'p, D: Disk>(
     ensures blocks { device.new.parts.common.slots.blocks ≡ device.old.parts.common.slots.blocks }
     ensures size { device.new.parts.common.slots.block_size ≡ device.old.parts.common.slots.block_size }
     ensures same_disk { device.new.disk.ghost_name ≡ device.old.disk.ghost_name }
+    ensures identity { D.identity device.new.disk.now ≡ D.identity device.old.disk.now }
 
     ensures left { LeavesOn (as_submission request) device.old.parts
         (D.moments device.old.disk.now) (D.moments device.new.disk.now) }

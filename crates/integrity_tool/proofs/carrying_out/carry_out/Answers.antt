@@ -7,7 +7,6 @@ use Rattle.run_model.specs.Ending.{Ending}
 use Rattle.hmac_tag.specs.TagMaker.{key_of}
 use Rattle.script_text.specs.declared.tags_found.TagsFound.{TagsFound}
 use Rattle.command_ending.specs.declared.ended.Ended.{Ended}
-use Rattle.command_ending.specs.declared.ended.Ended.TheVariants as Endings
 use Rattle.command_task.specs.declared.asked.Task.{Task}
 use Rattle.command_task.specs.declared.asked.Task.TheVariants as Tasks
 use Rattle.command_task.specs.Opening.{EndsImage, HasRunOn, IsMomentAt}

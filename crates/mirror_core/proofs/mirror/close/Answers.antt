@@ -14,3 +14,9 @@ returns-clause-first_moments g c = rw (← c.into_legs-a.ensures.first) c.close_
 
 pub returns-clause-second_moments : goal.returns-clause-second_moments
 returns-clause-second_moments g c = rw (← c.into_legs-a.ensures.second) c.close_legs.ensures.second_moments
+
+pub returns-clause-identity : goal.returns-clause-identity
+returns-clause-identity g c = rw (← c.into_legs-a.ensures.first) c.close_legs.ensures.identity
+
+pub returns-clause-second_identity : goal.returns-clause-second_identity
+returns-clause-second_identity g c = rw (← c.into_legs-a.ensures.second) c.close_legs.ensures.second_identity

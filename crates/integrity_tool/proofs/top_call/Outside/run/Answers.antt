@@ -1,34 +1,24 @@
-use Rattle.std.proofs.Common.{◌≡◌, ℕ, List, Option, Err, refl, sym, ap, ◌∙◌, subst, inl, inr}
-use Rattle.std.specs.Option.{ForSome}
-use Rattle.std.proofs.lemmas.Result.{err_from_is_err_and, on_ok_weaker}
-use Rattle.disk_model.specs.Identity.{DiskIdentity, IsBoundTo, IsThere, NamedDisk}
-use Rattle.disk_model.specs.Moments.{content_now}
-use Rattle.run_model.specs.Ending.{Failed}
-use Rattle.hmac_tag.specs.TagMaker.{key_of}
-use Rattle.command_task.specs.declared.asked.Asked.{Asked}
-use Rattle.command_task.specs.Running.{ending_by}
-use Rattle.command_model.specs.Taken.{HasTaken}
-use Rattle.command_task.specs.Serving.{most_taken_for}
+use Rattle.std.proofs.Common.{◌∙◌, Some, Err, refl, ap}
+use Rattle.std.proofs.lemmas.Result.{err_from_is_err_and}
+use Rattle.command_task.specs.declared.asked.Asking.{Asking}
+use Rattle.command_task.proofs.UnbegunLemmas.{read_none}
+use Rattle.command_run.proofs.TakenLemmas.{none_taken}
 use Rattle.integrity_tool.specs.Top.{outset_in}
 use Rattle.command_model.specs.Given.{texts}
-use Rattle.command_task.specs.Words.{HasNoScript, image_name, image_of, key_file_of, key_file_of_asked}
-use Rattle.command_task.proofs.EndedLemmas.{ok_no_err}
 use Rattle.integrity_tool.proofs.KeyLemmas.{words_unread}
-use Rattle.command_task.proofs.UnbegunLemmas.{read_none}
-use Rattle.integrity_tool.proofs.StartLemmas.{closed_given, outside_first, ran_given, read_given, stopped_at_key, stopped_at_words}
-use Rattle.command_run.proofs.TakenLemmas.{none_taken}
-use Rattle.integrity_tool.proofs.TopLemmas.{told_there}
-use Rattle.integrity_tool.proofs.WorldLemmas.{err_words, key_file_read, no_command, of_error, right_key, unopened_given, unopened_same}
+use Rattle.integrity_tool.specs.Mirrored.{mirror_outset_in}
+use Rattle.integrity_tool.proofs.MirrorStartLemmas.{mirror_at_words, mirror_read_none}
+use Rattle.integrity_tool.proofs.StartLemmas.{stopped_at_words}
+use Rattle.integrity_tool.proofs.WorldLemmas.{err_words, key_file_read, no_mirror, no_one_image, unopened_same}
 use Rattle.integrity_tool.proofs.top_call.Outside.run.Goals as goal
-use Rattle.run_model.specs.declared.outer.Outer.TheVariants as outers
 
 -- ---- what it is given
 
-pub returns-in_err-asked-clause-given : goal.returns-in_err-asked-clause-given
-returns-in_err-asked-clause-given g c given is =
+pub returns-in_err-asking-clause-given : goal.returns-in_err-asking-clause-given
+returns-in_err-asking-clause-given g c given is =
     let p = err_from_is_err_and c.from_residual.result c.from_residual.ensures.1 in
-    let runs = stopped_at_words given _ _ is (g.O.Sink.held c.args.self.now.out.now) c.in_err-asked.field-0.0
-    c.in_err-asked.ensures.errors (λ e. c.in_err-asked.ensures.words (ap (λ x. Err x) e)) in
+    let runs = stopped_at_words given _ _ is (g.O.Sink.held c.args.self.now.out.now) c.in_err-asking.field-0.0
+    c.in_err-asking.ensures.errors (λ e. c.in_err-asking.ensures.words (ap (λ x. Err x) e)) in
     rw (p.1, p.2, c.requires.lines) (record {
       runs = runs.0;
       moments = runs.1;
@@ -37,174 +27,91 @@ returns-in_err-asked-clause-given g c given is =
       ahead = read_none (outset_in given) given.script _ _ is.script_is;
     })
 
-pub returns-in_err-hash-clause-given : goal.returns-in_err-hash-clause-given
-returns-in_err-hash-clause-given g c given is =
-    let p = err_from_is_err_and c.from_residual-in_err-hash.result c.from_residual-in_err-hash.ensures.1 in
-    let runs = stopped_at_key given _ _ is (g.O.Sink.held c.args.self.now.out.now) c.in_ok-asked.asked
-    c.in_ok-asked.ensures.asked _ _ c.in_err-hash.field-0.0 c.in_err-hash.ensures.refused in
-    rw (p.1, p.2, c.requires.lines) (record {
-      runs = runs.0;
-      moments = runs.1;
-      closed = tt;
-      unopened = λ memory same. unopened_same _ _;
-      ahead = read_none (outset_in given) given.script _ _ is.script_is;
+pub returns-in-OneImage-clause-given : goal.returns-in-OneImage-clause-given
+returns-in-OneImage-clause-given g c =
+    c.run_on_image.ensures.given (texts c.args.words.now) (c.in_ok-asking.ensures.asked ∙ ap (λ (a : Asking). Some a) c.in-OneImage.is)
+
+pub returns-in-TwoImages-clause-given : goal.returns-in-TwoImages-clause-given
+returns-in-TwoImages-clause-given g c given is =
+    absurd (no_one_image (texts c.args.words.now) c.in-TwoImages.asked
+    (c.in_ok-asking.ensures.asked ∙ ap (λ (a : Asking). Some a) c.in-TwoImages.is) is.one)
+
+-- ---- what a mirror is given
+
+pub returns-in_err-asking-clause-mirrored : goal.returns-in_err-asking-clause-mirrored
+returns-in_err-asking-clause-mirrored g c given is =
+    let p = err_from_is_err_and c.from_residual.result c.from_residual.ensures.1 in
+    let came = mirror_at_words given _ _ is (g.O.Sink.held c.args.self.now.out.now) c.in_err-asking.field-0.0
+    c.in_err-asking.ensures.errors (λ e. c.in_err-asking.ensures.words (ap (λ x. Err x) e)) in
+    rw (p.1, p.2) (record {
+      lines = c.requires.lines;
+      runs = came.0;
+      moments = came.1;
+      ahead = mirror_read_none (mirror_outset_in given) given.script _ _ is.script_is;
     })
 
-pub returns-in_err-bind_image-clause-given : goal.returns-in_err-bind_image-clause-given
-returns-in_err-bind_image-clause-given g c given is =
-    let words = texts c.args.words.now in
-    let old = g.D.Disk.named c.args.self.now.disk.now in
-    let new = g.D.Disk.named c.bind_image.new.disk in
-    let name : image_name words ≡ c.as_str.result.now = ap image_of c.in_ok-asked.ensures.asked ∙ sym c.as_str.ensures in
-    let same : new (image_name words) ≡ old (image_name words) =
-    subst (λ (n : List ℕ). ForSome (content_now (old n).moments) (λ d. new n ≡ old n)) (sym name) c.bind_image.ensures.same given.content is.content in
-    let p = err_from_is_err_and c.from_residual-in_err-bind_image.result c.from_residual-in_err-bind_image.ensures.1 in
-    let runs = outside_first given _ _ is (g.O.Sink.held c.args.self.now.out.now) (Failed outers.Disk) tt (new (image_name words)) (ap (λ (n : NamedDisk). n.moments) same) in
-    rw (p.1, p.2, c.requires.lines, c.in_err-bind_image.ensures.disk.0) (record {
-      runs = runs.0;
-      moments = runs.1;
-      closed = tt;
-      unopened = λ memory. absurd (cc);
-      ahead = read_none (outset_in given) given.script _ _ is.script_is;
-    })
+pub returns-in-OneImage-clause-mirrored : goal.returns-in-OneImage-clause-mirrored
+returns-in-OneImage-clause-mirrored g c given is =
+    absurd (no_mirror (texts c.args.words.now) c.in-OneImage.asked
+    (c.in_ok-asking.ensures.asked ∙ ap (λ (a : Asking). Some a) c.in-OneImage.is) given.asked is.asks)
 
-pub returns-clause-given : goal.returns-clause-given
-returns-clause-given g c given is =
-    let words = texts c.args.words.now in
-    let old = g.D.Disk.named c.args.self.now.disk.now in
-    let mid = c.bind_image.new.disk in
-    let last = c.carry_out.new.disk in
-    let asked = c.in_ok-asked.asked in
-    let asks = c.in_ok-asked.ensures.asked in
-    let name : image_name words ≡ c.as_str.result.now = ap image_of asks ∙ sym c.as_str.ensures in
-    let found = subst (λ (n : List ℕ). IsThere (old n) (g.D.Disk.identity mid).sectors (g.D.Disk.moments mid)) (sym name) c.in_ok-bind_image.ensures.found in
-    let bound = subst (λ (n : List ℕ). IsBoundTo n (g.D.Disk.identity mid).name) (sym name) c.in_ok-bind_image.ensures.bound in
-    let there = found.is given.content is.content in
-    let ends = g.met.D.Disk.named_if_bound last (image_name words) (subst (λ (d : DiskIdentity). IsBoundTo (image_name words) d.name) (sym c.carry_out.ensures.identity) bound) in
-    let at_end = ap (λ (n : NamedDisk). n.moments) ends in
-    let told = told_there there is.content in
-    let held = g.O.Sink.held c.args.self.now.out.now in
-    let runs = ran_given given _ _ is held asked asks (key_of c.in_ok-hash.hash) c.in_ok-hash.ensures.hash (g.D.Disk.identity mid).sectors (g.D.Disk.moments mid) (g.D.Disk.moments last)
-    (g.D.Disk.named last (image_name words)) there at_end c.carry_out.new.telling (ending_by c.carry_out.result) (g.O.Sink.held c.carry_out.new.out)
-    (c.carry_out.ensures.runs given.script is.script_is given.content told) in
-    record {
-      runs = runs.0;
-      moments = runs.1;
-      closed = on_ok_weaker c.carry_out.result (λ closes.
-          closed_given given _ _ is held asked asks (key_of c.in_ok-hash.hash) c.in_ok-hash.ensures.hash (g.D.Disk.identity mid).sectors (g.D.Disk.moments mid) (g.D.Disk.moments last)
-          (g.D.Disk.named last (image_name words)) there at_end (closes given.script is.script_is given.content told)) c.carry_out.ensures.closed;
-      unopened = λ memory same.
-          unopened_given asked _ asks _ _ _ _ (ap (λ (n : NamedDisk). n.moments) there) at_end
-          (c.carry_out.ensures.unread.unopened memory given.script is.script_is (same ∙ is.script_is));
-      ahead = read_given given _ _ is held asked asks (key_of c.in_ok-hash.hash) c.in_ok-hash.ensures.hash (g.D.Disk.identity mid).sectors (g.D.Disk.moments mid) there _ _ _
-          (c.carry_out.ensures.ahead given.script is.script_is given.content told);
-    }
+pub returns-in-TwoImages-clause-mirrored : goal.returns-in-TwoImages-clause-mirrored
+returns-in-TwoImages-clause-mirrored g c =
+    rw c.requires.lines (c.run_on_both.ensures.mirrored (texts c.args.words.now)
+    (c.in_ok-asking.ensures.asked ∙ ap (λ (a : Asking). Some a) c.in-TwoImages.is))
 
--- ---- what it calls
+-- ---- what it calls, reads, and is on
 
-pub returns-in_err-asked-clause-calls : goal.returns-in_err-asked-clause-calls
-returns-in_err-asked-clause-calls g c =
+pub returns-in_err-asking-clause-calls : goal.returns-in_err-asking-clause-calls
+returns-in_err-asking-clause-calls g c =
     let p = err_from_is_err_and c.from_residual.result c.from_residual.ensures.1 in
     rw (p.1, p.2) (record {
-      words = λ none. (err_words _ c.in_err-asked.field-0.0 refl c.in_err-asked.ensures.errors, refl, (refl, refl));
-      key_first = λ either. (refl, refl);
+      words = λ none. (err_words _ c.in_err-asking.field-0.0 refl c.in_err-asking.ensures.errors, refl, (refl, refl, refl));
+      key_first = λ either. (refl, refl, refl);
+      second = λ one. refl;
       unread = λ either. refl;
     })
 
-pub returns-in_err-hash-clause-calls : goal.returns-in_err-hash-clause-calls
-returns-in_err-hash-clause-calls g c = record {
-  words = λ none. absurd (no_command (texts c.args.words.now) c.in_ok-asked.asked none c.in_ok-asked.ensures.asked);
-  key_first = λ either. (refl, refl);
-  unread = λ either. refl;
-}
-
-pub returns-in_err-bind_image-clause-calls : goal.returns-in_err-bind_image-clause-calls
-returns-in_err-bind_image-clause-calls g c = record {
-  words = λ none. absurd (no_command (texts c.args.words.now) c.in_ok-asked.asked none c.in_ok-asked.ensures.asked);
-  key_first = λ either. absurd (elim either [
-    | inl wrong ↦ right_key _ _ c.in_ok-asked.asked (key_of c.in_ok-hash.hash) c.in_ok-asked.ensures.asked c.in_ok-hash.ensures.hash wrong
-    | inr rose ↦ rose (c.in_ok-hash.ensures.counted.passed (λ is. ok_no_err _ _ _ refl is))
-  ]);
-  unread = λ either. refl;
-}
-
-pub returns-clause-calls : goal.returns-clause-calls
-returns-clause-calls g c = record {
-  words = λ none. absurd (no_command (texts c.args.words.now) c.in_ok-asked.asked none c.in_ok-asked.ensures.asked);
-  key_first = λ either. absurd (elim either [
-    | inl wrong ↦ right_key _ _ c.in_ok-asked.asked (key_of c.in_ok-hash.hash) c.in_ok-asked.ensures.asked c.in_ok-hash.ensures.hash wrong
-    | inr rose ↦ rose (c.in_ok-hash.ensures.counted.passed (λ is. ok_no_err _ _ _ refl is))
-  ]);
-  unread = λ either. elim either [
-    | inl before ↦ of_error _ _ c.carry_out.result c.carry_out.ensures.unread.before before
-    | inr none ↦ c.carry_out.ensures.unread.none (subst HasNoScript c.in_ok-asked.ensures.asked none)
-  ];
-}
-
--- ---- what it reads
-
-pub returns-in_err-asked-clause-read : goal.returns-in_err-asked-clause-read
-returns-in_err-asked-clause-read g c =
+pub returns-in_err-asking-clause-read : goal.returns-in_err-asking-clause-read
+returns-in_err-asking-clause-read g c =
     let p = err_from_is_err_and c.from_residual.result c.from_residual.ensures.1 in
     rw (p.1, p.2) (record {
       key = key_file_read _ g.K.NamedSource.named g.K.NamedSource.left c.args.self.now c.args.self.now _ _ refl (λ read. read) refl refl refl
           (words_unread (texts c.args.words.now) g.K.NamedSource.named g.K.NamedSource.left c.args.self.now.key.now _
-          c.in_err-asked.ensures.errors (λ e. c.in_err-asked.ensures.words (ap (λ x. Err x) e)));
+          c.in_err-asking.ensures.errors (λ e. c.in_err-asking.ensures.words (ap (λ x. Err x) e)));
       taken = none_taken _ _ _ refl;
     })
 
-pub returns-clause-read : goal.returns-clause-read
-returns-clause-read g c = record {
-  key = key_file_read _ g.K.NamedSource.named g.K.NamedSource.left _ _ (key_file_of c.in_ok-asked.asked.hash) _ (ap key_file_of_asked c.in_ok-asked.ensures.asked)
-      (λ read. tt) refl refl refl c.in_ok-hash.ensures.read;
-  taken = subst (λ (o : Option Asked). HasTaken (most_taken_for o) (g.S.Source.left c.args.self.now.script.now) (g.S.Source.left c.carry_out.new.script)) (sym c.in_ok-asked.ensures.asked)
-      c.carry_out.ensures.taken;
-}
+pub returns-in-OneImage-clause-calls : goal.returns-in-OneImage-clause-calls
+returns-in-OneImage-clause-calls g c =
+    c.run_on_image.ensures.calls (texts c.args.words.now) (c.in_ok-asking.ensures.asked ∙ ap (λ (a : Asking). Some a) c.in-OneImage.is)
 
--- ---- its image
+pub returns-in-TwoImages-clause-calls : goal.returns-in-TwoImages-clause-calls
+returns-in-TwoImages-clause-calls g c =
+    c.run_on_both.ensures.calls (texts c.args.words.now) (c.in_ok-asking.ensures.asked ∙ ap (λ (a : Asking). Some a) c.in-TwoImages.is)
 
-pub returns-in_err-bind_image-clause-image : goal.returns-in_err-bind_image-clause-image
-returns-in_err-bind_image-clause-image g c =
-    let words = texts c.args.words.now in
-    let old = g.D.Disk.named c.args.self.now.disk.now in
-    let new = g.D.Disk.named c.bind_image.new.disk in
-    let p = err_from_is_err_and c.from_residual-in_err-bind_image.result c.from_residual-in_err-bind_image.ensures.1 in
-    let name : image_name words ≡ c.as_str.result.now = ap image_of c.in_ok-asked.ensures.asked ∙ sym c.as_str.ensures in
-    rw (p.1, p.2) (record {
-      bound = λ ok. absurd (cc);
-      sectors = λ content told. ap (λ (n : NamedDisk). n.sectors)
-          (subst (λ (n : List ℕ). ForSome (content_now (old n).moments) (λ d. new n ≡ old n)) (sym name) c.bind_image.ensures.same content told);
-    })
+pub returns-in-OneImage-clause-read : goal.returns-in-OneImage-clause-read
+returns-in-OneImage-clause-read g c =
+    c.run_on_image.ensures.read (texts c.args.words.now) (c.in_ok-asking.ensures.asked ∙ ap (λ (a : Asking). Some a) c.in-OneImage.is)
 
-pub returns-clause-image : goal.returns-clause-image
-returns-clause-image g c =
-    let words = texts c.args.words.now in
-    let old = g.D.Disk.named c.args.self.now.disk.now in
-    let mid = c.bind_image.new.disk in
-    let name : image_name words ≡ c.as_str.result.now = ap image_of c.in_ok-asked.ensures.asked ∙ sym c.as_str.ensures in
-    let found = subst (λ (n : List ℕ). IsThere (old n) (g.D.Disk.identity mid).sectors (g.D.Disk.moments mid)) (sym name) c.in_ok-bind_image.ensures.found in
-    let bound = subst (λ (n : List ℕ). IsBoundTo n (g.D.Disk.identity mid).name) (sym name) c.in_ok-bind_image.ensures.bound in
-    let still = subst (λ (d : DiskIdentity). IsBoundTo (image_name words) d.name) (sym c.carry_out.ensures.identity) bound in
-    let ends = g.met.D.Disk.named_if_bound c.carry_out.new.disk (image_name words) still in
-    record {
-      bound = λ ok. still;
-      sectors = λ content told.
-          ap (λ (n : NamedDisk). n.sectors) ends ∙ ap (λ (d : DiskIdentity). d.sectors) c.carry_out.ensures.identity
-          ∙ sym (ap (λ (n : NamedDisk). n.sectors) (found.is content told));
-    }
+pub returns-in-TwoImages-clause-read : goal.returns-in-TwoImages-clause-read
+returns-in-TwoImages-clause-read g c =
+    c.run_on_both.ensures.read (texts c.args.words.now) (c.in_ok-asking.ensures.asked ∙ ap (λ (a : Asking). Some a) c.in-TwoImages.is)
 
-pub returns-in_err-hash-clause-read : goal.returns-in_err-hash-clause-read
-returns-in_err-hash-clause-read g c =
-    let p = err_from_is_err_and c.from_residual-in_err-hash.result c.from_residual-in_err-hash.ensures.1 in
-    rw (p.1, p.2) (record {
-      key = key_file_read _ g.K.NamedSource.named g.K.NamedSource.left _ _ (key_file_of c.in_ok-asked.asked.hash) _ (ap key_file_of_asked c.in_ok-asked.ensures.asked)
-          (λ read. read) refl refl refl c.in_err-hash.ensures.read;
-      taken = none_taken _ _ _ refl;
-    })
+pub returns-in-OneImage-clause-image : goal.returns-in-OneImage-clause-image
+returns-in-OneImage-clause-image g c =
+    c.run_on_image.ensures.image (texts c.args.words.now) (c.in_ok-asking.ensures.asked ∙ ap (λ (a : Asking). Some a) c.in-OneImage.is)
 
-pub returns-in_err-bind_image-clause-read : goal.returns-in_err-bind_image-clause-read
-returns-in_err-bind_image-clause-read g c = record {
-  key = key_file_read _ g.K.NamedSource.named g.K.NamedSource.left _ _ (key_file_of c.in_ok-asked.asked.hash) _ (ap key_file_of_asked c.in_ok-asked.ensures.asked)
-      (λ read. tt) refl refl refl c.in_ok-hash.ensures.read;
-  taken = none_taken _ _ _ refl;
-}
+pub returns-in-TwoImages-clause-image : goal.returns-in-TwoImages-clause-image
+returns-in-TwoImages-clause-image g c =
+    c.run_on_both.ensures.image (texts c.args.words.now) (c.in_ok-asking.ensures.asked ∙ ap (λ (a : Asking). Some a) c.in-TwoImages.is)
+
+-- ---- what ends it on one image
+
+pub returns-in-OneImage-clause-image_cause : goal.returns-in-OneImage-clause-image_cause
+returns-in-OneImage-clause-image_cause g c one = c.run_on_image.ensures.image_cause
+
+pub returns-in-TwoImages-clause-image_cause : goal.returns-in-TwoImages-clause-image_cause
+returns-in-TwoImages-clause-image_cause g c one =
+    absurd (no_one_image (texts c.args.words.now) c.in-TwoImages.asked
+    (c.in_ok-asking.ensures.asked ∙ ap (λ (a : Asking). Some a) c.in-TwoImages.is) one)

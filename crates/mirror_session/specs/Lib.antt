@@ -1,0 +1,5 @@
+pub mod Told
+pub mod Answering
+pub mod AskRun
+pub mod Calls
+pub mod Lines
