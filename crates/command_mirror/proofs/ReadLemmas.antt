@@ -5,13 +5,13 @@ use Rattle.device_model.specs.ScriptBytes.{most_piece}
 use Rattle.device_model.specs.Transcript.{closed_text}
 use Rattle.mirror_model.specs.Command.{MirrorOutset, Mirrors, RefusedBefore, RefusedLegs, RefusedOpen}
 use Rattle.mirror_model.specs.ScriptRun.{MirrorRun}
-use Rattle.mirror_run.specs.Running.{HasReadTo}
+use Rattle.command_model.specs.Mirroring.{HasReadIn, HasReadTo}
 use Rattle.mirror_run.proofs.StoppingLemmas.{told_nothing}
 use Rattle.command_ending.specs.declared.ended.Ended.{Ended}
 use Rattle.command_model.specs.Taken.{HasTaken, HoldsText}
 use Rattle.command_task.proofs.UnbegunLemmas.{holds_further}
 use Rattle.script_text.specs.declared.tags_found.TagsFound.{TagsFound}
-use Rattle.command_mirror.specs.Calls.{HasReadIn, TellsClosed}
+use Rattle.command_mirror.specs.Calls.{TellsClosed}
 
 -- A source that is not called has given nothing,
 pub none_taken : (most : ℕ) (left : Option (List ℕ)) → HasTaken most left left

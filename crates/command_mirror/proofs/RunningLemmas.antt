@@ -26,10 +26,11 @@ use Rattle.mirror_model.specs.Command.{IsMirrorRunAt, MirrorKind, MirrorOutset, 
 use Rattle.mirror_model.specs.Command.{first_blocks, mirror_outset, opened_mirror}
 use Rattle.mirror_model.specs.Command.{outset_by_blocks, second_blocks, unequal_in}
 use Rattle.mirror_model.specs.ScriptRun.{IsMirrorRunOf, MirrorRun}
-use Rattle.mirror_run.specs.Running.{HasReadTo, IsStopped}
+use Rattle.command_model.specs.Mirroring.{HasReadIn, HasReadTo}
+use Rattle.mirror_run.specs.Running.{IsStopped}
 use Rattle.mirror_run.specs.Standing.{IsStanding, Standing, cuts_by, format_at}
 use Rattle.command_ending.specs.Ended.{ending_of}
-use Rattle.command_mirror.specs.Calls.{HasReadIn, shown_of}
+use Rattle.command_mirror.specs.Calls.{shown_of}
 use Rattle.command_mirror.specs.Mirrored.{HasMirrored, HasMirrorMoments, leg_fault, mirror_kind_in, mirror_outset_on}
 use Rattle.command_mirror.specs.Refusing.{ended_by_legs, image_fault_by}
 use Rattle.command_mirror.proofs.LegLemmas.{leg_stands, of_device, of_device_now, of_device_within}

@@ -9,7 +9,6 @@ use Rattle.run_model.specs.Ending.{Ending}
 use Rattle.run_model.specs.declared.outer.Outer.TheVariants as outers
 use Rattle.device_model.specs.Transcript.{closed_text}
 use Rattle.stream_io.specs.Stream.{AddsPrefix, held_with}
-use Rattle.mirror_model.specs.Command.{IsMirrorRunAt, MirrorOutset, Mirrors}
 use Rattle.mirror_model.specs.ScriptRun.{IsMirrorRunOf, MirrorRun}
 use Rattle.device.specs.declared.mode.DeviceParts.{DeviceParts}
 use Rattle.mirror_core.specs.Stands.{MayBeLeftOf, StandsFor}
@@ -20,7 +19,8 @@ use Rattle.script_lines.specs.Ends.{HasEndCause, IsCounted}
 use Rattle.command_model.specs.Taken.{HasTaken}
 use Rattle.device_model.specs.ScriptBytes.{most_taken}
 use Rattle.command_task.specs.Running as Running
-use Rattle.mirror_run.specs.Running.{HasReadTo, IsStopped}
+use Rattle.command_model.specs.Mirroring.{HasReadIn, HasReadTo}
+use Rattle.mirror_run.specs.Running.{IsStopped}
 use Rattle.mirror_run.specs.Standing.{BothMoments, IsStanding, Shown, Standing, cuts_by, format_at}
 use Rattle.mirror_session.specs.Answering.{OneRose}
 use Rattle.script_text.specs.declared.tags_found.TagsFound.{TagsFound}
@@ -47,13 +47,6 @@ RunsMirror identity moments second_identity second_moments left held consent key
     HasMirrored outset c d bytes ending (moments last) (second_moments second_last) (held sink) (held out)
     × HasMirrorMoments outset c d bytes (moments first) (moments last) (second_moments second)
     (second_moments second_last)) (second_moments second)) (moments first)
-
--- A script is read where it is run on a mirror, and no further than its run has come to.
-abbrev pub HasReadIn : MirrorOutset → (script : List ℕ) → (left held_before held : Option (List ℕ)) → (failed : Type 0)
-    → Type 0
-HasReadIn (Mirrors kind first second) script left held_before held failed = (run : MirrorRun)
-    → IsMirrorRunAt (Mirrors kind first second) script run → HasReadTo run script left held_before held failed
-HasReadIn outset script left held_before held failed = left ≡ Some script
 
 abbrev pub ReadsMirror : {D E S O : Type 0} → (D → DiskIdentity) → (D → List Content) → (E → DiskIdentity)
     → (E → List Content) → (S → Option (List ℕ)) → (O → Option (List ℕ)) → (S → ℕ) → Consent

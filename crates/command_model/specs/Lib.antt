@@ -16,3 +16,4 @@ pub mod Ends
 pub mod KeyFile
 pub mod Given
 pub mod Status
+pub mod Mirroring

@@ -17,7 +17,8 @@ use Rattle.run_model.specs.declared.outer.Outer.TheVariants as outers
 use Rattle.script_lines.specs.Ends.{HasEndCause}
 use Rattle.command_task.specs.Telling.{last_text}
 use Rattle.command_task.specs.declared.telling.Telling.TheVariants.{Lines}
-use Rattle.command_mirror.specs.Calls.{EndsMirror, HasReadIn}
+use Rattle.command_model.specs.Mirroring.{HasReadIn}
+use Rattle.command_mirror.specs.Calls.{EndsMirror}
 use Rattle.command_mirror.specs.Mirrored.{HasMirrored}
 use Rattle.integrity_tool.specs.Mirrored.{MirrorGiven, TellsMirror, mirror_outset_in}
 use Rattle.integrity_tool.specs.Top.{IsCountedBy}

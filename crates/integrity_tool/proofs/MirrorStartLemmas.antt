@@ -22,7 +22,7 @@ use Rattle.command_task.specs.Words.{asking_of, key_file_of}
 use Rattle.command_task.specs.declared.asked.AskedMirror.{AskedMirror}
 use Rattle.command_task.specs.declared.asked.Asking.{Asking}
 use Rattle.command_task.specs.declared.asked.Asking.TheVariants.{OneImage, TwoImages}
-use Rattle.command_mirror.specs.Calls.{HasReadIn}
+use Rattle.command_model.specs.Mirroring.{HasReadIn}
 use Rattle.command_task.proofs.RunningLemmas.{now_of, told_nothing}
 use Rattle.command_mirror.specs.Mirrored.{HasMirrored, HasMirrorMoments, leg_fault, mirror_kind_in, mirror_outset_on}
 use Rattle.command_mirror.proofs.UnbegunLemmas.{IsSound, left_as_it_was, nothing_mirrored, sound_on}

@@ -15,7 +15,7 @@ use Rattle.command_task.specs.declared.telling.Telling.{Telling}
 use Rattle.command_task.specs.declared.telling.Telling.TheVariants.{Lines}
 use Rattle.command_task.specs.Running.{ending_by}
 use Rattle.command_task.specs.Words.{asking_of, key_file_of}
-use Rattle.command_mirror.specs.Calls.{HasReadIn}
+use Rattle.command_model.specs.Mirroring.{HasReadIn}
 use Rattle.command_mirror.specs.Mirrored.{HasMirrored, HasMirrorMoments, mirror_outset_on}
 use Rattle.command_model.specs.KeyFile.{HasFile}
 use Rattle.command_model.specs.Outset.{key_by}

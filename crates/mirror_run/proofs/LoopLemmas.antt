@@ -35,8 +35,9 @@ use Rattle.script_lines.specs.Lines.{HasAdvanced, is_beyond, lines_behind}
 use Rattle.command_model.specs.Taken.{HoldsText}
 use Rattle.device_model.specs.ScriptBytes.{HasNoNewline, most_piece}
 use Rattle.script_lines.proofs.NewlineLemmas.{newlines_in-append, newlines_in-most, newlines_in-none}
+use Rattle.command_model.specs.Mirroring.{HasReadTo}
 use Rattle.mirror_run.specs.Lines.{HasMadeStep, HasRunBytes, IsStoppedByBytes, level_at, outcome_at}
-use Rattle.mirror_run.specs.Running.{HasReadTo, IsAt, IsAtClose, IsStopped, Leads, only_close, rest_at}
+use Rattle.mirror_run.specs.Running.{IsAt, IsAtClose, IsStopped, Leads, only_close, rest_at}
 use Rattle.mirror_run.specs.Standing.{BothMoments, Cuts, Shown, Standing, format_at, standing_behind}
 use Rattle.mirror_run.proofs.ReadingLemmas.{line_once}
 use Rattle.mirror_run.proofs.RunLemmas.{goes_on}

@@ -18,8 +18,9 @@ use Rattle.command_ending.specs.declared.ended.Ended.TheVariants as Endings
 use Rattle.script_lines.specs.Ends.{HasEndCause}
 use Rattle.script_lines.specs.Lines.{HasAdvanced}
 use Rattle.command_model.specs.Taken.{HasTaken, HoldsText}
+use Rattle.command_model.specs.Mirroring.{HasReadTo}
 use Rattle.mirror_run.specs.Lines.{HasMadeStep, HasRunBytes, IsStoppedByBytes, level_at}
-use Rattle.mirror_run.specs.Running.{HasReadTo, IsAt, IsAtClose, IsStopped}
+use Rattle.mirror_run.specs.Running.{IsAt, IsAtClose, IsStopped}
 use Rattle.mirror_run.specs.Standing.{BothMoments, Cuts, IsStanding, Shown, Standing, format_at}
 use Rattle.script_text.specs.declared.tags_found.TagsFound.TheVariants.{Matching}
 use Rattle.mirror_run.proofs.LoopLemmas.{advance_stopped, at_first_line, end_found, line_done, line_held, line_read}

@@ -11,8 +11,9 @@ use Rattle.command_ending.specs.declared.ended.Ended.{Ended}
 use Rattle.script_lines.specs.Ends.{HasEndCause, IsCounted}
 use Rattle.command_model.specs.Taken.{HasTaken}
 use Rattle.device_model.specs.ScriptBytes.{most_taken}
+use Rattle.command_model.specs.Mirroring.{HasReadTo}
 use Rattle.mirror_run.specs.Lines.{HasMadeStep, HasRunBytes, IsStoppedByBytes, level_at}
-use Rattle.mirror_run.specs.Running.{HasReadTo, IsAtClose, IsStopped}
+use Rattle.mirror_run.specs.Running.{IsAtClose, IsStopped}
 use Rattle.mirror_run.specs.Standing.{Cuts, IsStanding, Shown, Standing, format_at}
 
 -- Each leg may be asked as much as a script asks: a level of all blocks, and then lines, of which there are no more than

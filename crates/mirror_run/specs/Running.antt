@@ -1,8 +1,7 @@
 -- The run of a script on a mirror that stands somewhere in it: what stops it, and what leads there.
 -- Own: the mirror is levelled before the first line, and the script is not read before that is told.
-use Rattle.std.specs.Prelude.{◌≡◌, ℕ, ◌+◌, ◌-◌, ◌<◌, ◌≤◌, List, ◌++◌, length, take, Option, Some}
+use Rattle.std.specs.Prelude.{◌≡◌, ℕ, ◌+◌, ◌<◌, List, ◌++◌, length, Option}
 use Rattle.std.specs.List.{AllZip}
-use Rattle.std.specs.Option.{IsSomeAnd}
 use Rattle.disk_model.specs.Disk.{Content, EachImage, Image}
 use Rattle.disk_model.specs.Moments.{HasNow}
 use Rattle.device_model.specs.History.{Change, History, with_changes}
@@ -18,8 +17,7 @@ use Rattle.stream_io.specs.Stream.{held_with}
 use Rattle.script_text.specs.Found.{finds_fault}
 use Rattle.script_text.specs.declared.tags_found.TagsFound.{TagsFound}
 use Rattle.script_lines.specs.Lines.{is_beyond, lines_behind}
-use Rattle.command_model.specs.Taken.{HoldsText}
-use Rattle.device_model.specs.ScriptBytes.{HasNoNewline, most_piece, newlines_in}
+use Rattle.device_model.specs.ScriptBytes.{newlines_in}
 use Rattle.mirror_run.specs.Standing.{BothMoments, Cuts, IsStanding, Shown, Standing, format_at, standing_behind}
 
 -- ---- what stops it
@@ -94,25 +92,3 @@ pub record IsAtClose (may : Cuts) (there : Standing) (run : MirrorRun) (start : 
   pub steps : List MirrorStep
   pub is_split : run.steps ≡ steps ++ (only_close found).steps
   pub done : here ≡ standing_behind there (mirror_changes_in steps)
-
--- ---- what is read
-
--- No more of a script is taken than lines of its run whose text is all printed, one line behind them, and one piece
--- behind that; and nothing before the levelling is told, which is the first step. Where the source failed, not even
--- what ends that one line is taken: it is called only where each line that it gave whole is run, and the text printed.
-pub record HasReadTo (run : MirrorRun) (script : List ℕ) (left held_before held : Option (List ℕ)) (failed : Type 0)
-    : Type 0 where
-  pub done : ℕ
-  pub of_run : done ≤ length run.steps
-  pub printed : HoldsText (mirror_texts_of (take done run.steps)) held_before held
-  pub front : List ℕ
-  pub line : List ℕ
-  pub ending : List ℕ
-  pub behind : List ℕ
-  pub bytes : script ≡ front ++ (line ++ (ending ++ behind))
-  pub within : newlines_in front ≤ done - 1
-  pub plain : HasNoNewline line
-  pub short : length ending ≤ 1
-  pub taken : IsSomeAnd left (λ more. length behind ≤ length more + most_piece)
-  pub asked : failed → left ≡ Some (ending ++ behind)
-  pub untouched : done ≡ 0 → left ≡ Some script
